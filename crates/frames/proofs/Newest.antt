@@ -1,0 +1,23 @@
+-- A search from the last record down finds the newest frame. Assumes nothing.
+use mathlib.Core.Path.{_≡_, sym, ap, _∙_}
+use mathlib.Core.Bool.{Bool, true, false, cond}
+use mathlib.Core.List.{List}
+use Prim.Native.Nat.{ℕ, suc, _+_, _*_, _-_}
+use native.Mathlib.Nat.{add-sub-cancel-left}
+use lib.ListN.{take, drop}
+use Rattle.frames.specs.Records.{recordBytes, recordAt, isFrame, lastOf}
+
+-- one step: n records are left, and the last of them is m
+module _ (identifier : ℕ) (s : List ℕ) (n m : ℕ) (e : n ≡ suc m) where
+  step : lastOf identifier s n ≡ cond (isFrame identifier (recordAt m s)) (recordAt m s) (lastOf identifier s m)
+  step = ap (lastOf identifier s) e
+
+  pub last-here : isFrame identifier (recordAt m s) ≡ true → recordAt m s ≡ lastOf identifier s n
+  last-here t = sym (step ∙ ap (λ (b : Bool). cond b (recordAt m s) (lastOf identifier s m)) t)
+
+  pub last-below : isFrame identifier (recordAt m s) ≡ false → lastOf identifier s m ≡ lastOf identifier s n
+  last-below t = sym (step ∙ ap (λ (b : Bool). cond b (recordAt m s) (lastOf identifier s m)) t)
+
+-- the part that the code takes, from the record's start to its end
+pub part-is : (s : List ℕ) (n : ℕ) → take (recordBytes * n + recordBytes - recordBytes * n) (drop (recordBytes * n) s) ≡ recordAt n s
+part-is s n = ap (λ (k : ℕ). take k (drop (recordBytes * n) s)) (add-sub-cancel-left (recordBytes * n) recordBytes)

@@ -1,0 +1,12 @@
+use mathlib.Core.Path.{ap, _∙_}
+use Rattle.frames.specs.Heard.{batteryOf}
+use borrow.Author.Needs.{needs}
+use Rattle.frames.proofs.heard.BatteryFrame.newest.Statement.{statement}
+use Rattle.frames.proofs.heard.BatteryFrame.newest.Tie as tie
+
+returns : tie.Need-returns
+returns c = c .of .ensures ∙ ap batteryOf (c .before .newest-record .ensures)
+
+pub newest-spec : {M : Type 1} → statement M
+newest-spec = tie.close
+    (tie.spec (search needs) (search needs) returns)

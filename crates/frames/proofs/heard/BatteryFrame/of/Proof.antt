@@ -1,0 +1,17 @@
+use borrow.Author.Tests.{eq-eqb, ne-eqb}
+use Rattle.frames.specs.Heard.{batteryOf}
+use borrow.Author.Needs.{needs}
+use Rattle.frames.proofs.heard.BatteryFrame.of.Statement.{statement}
+use Rattle.frames.proofs.heard.BatteryFrame.of.Tie as tie
+
+returns : tie.Need-returns
+unfolding batteryOf
+returns c = rw (ne-eqb _ _ (c .if1 .taken))
+
+returns-2 : tie.Need-returns-2
+unfolding batteryOf
+returns-2 c = rw (eq-eqb _ _ (c .before .if1 .left), c .u16-at .ensures)
+
+pub of-spec : {M : Type 1} → statement M
+of-spec = tie.close
+    (tie.spec returns (search needs) (search needs) returns-2)

@@ -1,0 +1,12 @@
+use mathlib.Core.Path.{ap, _∙_}
+use Rattle.frames.specs.Heard.{statusOf}
+use borrow.Author.Needs.{needs}
+use Rattle.frames.proofs.heard.StatusFrame.newest.Statement.{statement}
+use Rattle.frames.proofs.heard.StatusFrame.newest.Tie as tie
+
+returns : tie.Need-returns
+returns c = c .of .ensures ∙ ap statusOf (c .before .newest-record .ensures)
+
+pub newest-spec : {M : Type 1} → statement M
+newest-spec = tie.close
+    (tie.spec (search needs) (search needs) returns)

@@ -1,0 +1,12 @@
+use mathlib.Core.Path.{refl}
+use Rattle.frames.specs.Heard.{signalsOf}
+use Rattle.frames.proofs.heard.VehicleStatus.signals.Statement.{statement}
+use Rattle.frames.proofs.heard.VehicleStatus.signals.Tie as tie
+
+returns : tie.Need-returns
+unfolding signalsOf
+returns c = refl
+
+pub signals-spec : {M : Type 1} → statement M
+signals-spec = tie.close
+    (tie.spec returns)

@@ -1,0 +1,59 @@
+-- Document 01, 'Frames': what a record of H'100, H'101 or H'102 says. Definitions only.
+-- Each answer's cases: Heard with the document's values, from a whole record; Absent where no record counted, which is [].
+use mathlib.Core.Bool.{Bool, not, cond, _&&_}
+use mathlib.Core.List.{List}
+use Prim.Native.Nat.{ℕ, _/_, _%_}
+use lib.Dec.{eqb}
+use lib.ListN.{length}
+use Rattle.frames.specs.Records.{recordBytes, dataByte, dataNumber}
+use Rattle.frames.specs.Times.{bytesOf}
+use Rattle.frames.specs.declared.heard.BatteryFrame.{BatteryFrame}
+use Rattle.frames.specs.declared.heard.BatteryFrame.the-variants as battery
+use Rattle.frames.specs.declared.heard.TimeFrame.{TimeFrame}
+use Rattle.frames.specs.declared.heard.TimeFrame.the-variants as time
+use Rattle.frames.specs.declared.heard.StatusFrame.{StatusFrame}
+use Rattle.frames.specs.declared.heard.StatusFrame.the-variants as status
+use Rattle.frames.specs.declared.heard.VehicleStatus.{VehicleStatus}
+use Rattle.frames.specs.declared.heard.VehicleSignals.{VehicleSignals}
+
+abbrev isWhole : List ℕ → Bool
+isWhole r = eqb (length r) recordBytes
+
+abbrev pub batteryIdentifier : ℕ
+batteryIdentifier = 0x100
+
+-- "H'100: bytes 4–5 maximum battery voltage."
+unfoldable pub batteryOf : List ℕ → BatteryFrame
+batteryOf r = cond (isWhole r) (battery.Heard (dataNumber r 4)) battery.Absent
+
+abbrev pub timeIdentifier : ℕ
+timeIdentifier = 0x101
+
+-- "H'101: byte 1 charging time in tens of seconds; if it is H'FF, byte 2 gives minutes": both bytes as they came
+unfoldable pub timeOf : List ℕ → TimeFrame
+timeOf r = cond (isWhole r) (time.Heard (bytesOf (dataByte r 1) (dataByte r 2))) time.Absent
+
+abbrev pub statusIdentifier : ℕ
+statusIdentifier = 0x102
+
+-- "H'102: bytes 1–2 target voltage; 3 requested amperes; 4 bits 0–4 faults; 5 status"
+unfoldable pub statusOf : List ℕ → StatusFrame
+statusOf r =
+    cond (isWhole r)
+    (status.Heard (record { target = dataNumber r 1; request = dataByte r 3; faults = dataByte r 4; flags = dataByte r 5 }))
+    status.Absent
+
+-- the bit of a weight
+abbrev pub bit : ℕ → ℕ → ℕ
+bit weight byte = byte / weight % 2
+
+-- "4 bits 0–4 faults; 5 status: bit 0 enabled, 1 not in park, 2 system fault, 3 contactor open, 4 stop request"
+unfoldable pub signalsOf : VehicleStatus → VehicleSignals
+signalsOf s =
+    record {
+      clear = eqb (s .faults % 32) 0 && eqb (bit 4 (s .flags)) 0;
+      enabled = eqb (bit 1 (s .flags)) 1;
+      parked = eqb (bit 2 (s .flags)) 0;
+      closed = eqb (bit 8 (s .flags)) 0;
+      stop = eqb (bit 16 (s .flags)) 1;
+    }

@@ -1,0 +1,5 @@
+pub mod Records
+pub mod Times
+pub mod Heard
+pub mod Sent
+pub mod Starred

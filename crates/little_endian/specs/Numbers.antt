@@ -1,0 +1,18 @@
+-- Numbers of two and four bytes, the lowest byte first. Definitions only.
+use mathlib.Core.List.{List}
+use Prim.Native.Nat.{ℕ, _+_, _*_, _/_, _%_}
+use lib.ListN.{getD}
+
+-- the number that starts at a place of a list of bytes
+abbrev pub u16At : List ℕ → ℕ → ℕ
+u16At s at = getD s at 0 + 256 * getD s (at + 1) 0
+
+abbrev pub u32At : List ℕ → ℕ → ℕ
+u32At s at = u16At s at + 65536 * u16At s (at + 2)
+
+-- the two bytes of a number below 65,536
+abbrev pub lowByte : ℕ → ℕ
+lowByte x = x % 256
+
+abbrev pub highByte : ℕ → ℕ
+highByte x = x / 256

@@ -1,0 +1,7 @@
+-- Laws that several proofs share, from the plainest on.
+pub mod Tests
+pub mod Ceiling
+pub mod InRange
+pub mod Least
+pub mod Bits
+pub mod Connector

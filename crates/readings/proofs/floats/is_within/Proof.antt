@@ -1,0 +1,13 @@
+use mathlib.Core.Path.{refl}
+use lib.Ieee.{ofBits, ofInt}
+use borrow.Author.Needs.{needs}
+use Rattle.readings.proofs.floats.is_within.Statement.{statement}
+use Rattle.readings.proofs.floats.is_within.Tie as tie
+
+returns : tie.Need-returns
+unfolding ofBits ofInt
+returns c = refl
+
+pub is-within-spec : {M : Type 1} → statement M
+is-within-spec = tie.close
+    (tie.spec (search needs) returns)

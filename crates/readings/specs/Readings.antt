@@ -1,0 +1,55 @@
+-- Document 01, 'Readings', and question 27. Definitions only.
+use mathlib.Core.Bool.{Bool, true, false, cond, _&&_}
+use Prim.Native.Nat.{ℕ, _*_}
+use lib.Ieee.{Float, binary32, le, lt, mul, sub, ofBits}
+use Rattle.readings.specs.Value.{number, within, ceiling, stepsPerUnit, least}
+use Rattle.readings.specs.declared.Reading.{Reading}
+use Rattle.readings.specs.declared.Reading.the-variants.{Value, Missing}
+use Rattle.readings.specs.declared.Measurement.{Measurement}
+use Rattle.readings.specs.declared.Judged.{Judged}
+use Rattle.readings.specs.declared.Judged.the-variants.{Good, Bad}
+
+-- "A reading is a value or missing": present bit 1 and the float that the bits stand for, or present bit 0
+abbrev pub readingOf : Bool → ℕ → Reading
+readingOf true bits = Value (ofBits binary32 bits)
+readingOf false bits = Missing
+
+-- "0 ≤ volts ≤ 1000 and 0 ≤ amperes ≤ 400; a NaN isn't good, minus zero is zero"
+unfoldable pub inRange : Measurement → Bool
+inRange m = within 1000 (m .volts) && within 400 (m .amperes)
+
+-- "Connector volts are volts minus cable resistance × amperes: the product rounded once, the difference rounded once, a negative result taken as 0"
+unfoldable pub connectorVolts : Measurement → Float
+connectorVolts m =
+    let difference = sub binary32 (m .volts) (mul binary32 (m .resistance) (m .amperes)) in
+    cond (lt difference (number 0)) (number 0) difference
+
+-- "Both then become the least whole number not below"
+unfoldable pub judgedSteps : Measurement → Judged
+judgedSteps m = Good (least (connectorVolts m)) (least (m .amperes))
+
+abbrev pub judgedAt : Measurement → Judged
+judgedAt m = cond (inRange m) (judgedSteps m) Bad
+
+-- "It is good if both are present" and in range
+abbrev pub judgedOf : Reading → Reading → Float → Judged
+judgedOf (Value volts) (Value amperes) resistance = judgedAt (record { volts = volts; amperes = amperes; resistance = resistance })
+judgedOf (Value volts) Missing resistance = Bad
+judgedOf Missing amperes resistance = Bad
+
+-- a judged figure in whole volts or amperes, as frames carry it
+abbrev pub wholeUnits : ℕ → ℕ
+wholeUnits steps = ceiling steps stepsPerUnit
+
+-- question 27: "Resistance, if given, at least 100 ohms × threshold? A NaN is a no, plus infinity a yes."
+abbrev pub insulated : ℕ → Reading → Bool
+insulated threshold (Value ohms) = le (number (100 * threshold)) ohms
+insulated threshold Missing = true
+
+-- the cable resistance that a head's bits stand for
+abbrev pub resistanceOf : ℕ → Float
+resistanceOf bits = ofBits binary32 bits
+
+-- setup's question 4: "Resistance 0 to 1, so no NaN?"
+unfoldable pub allowedResistance : ℕ → Bool
+allowedResistance bits = within 1 (resistanceOf bits)

@@ -1,0 +1,131 @@
+// The meter board's readings: document 01, 'Readings', and question 27. Rests on little_endian.
+// Floats end here: the layers above see whole numbers, and hold a float only inside a Reading.
+mod floats;
+
+use floats::float_of;
+use floats::is_within;
+use floats::least_steps;
+ghost use mathlib.Core.Path.{_≡_};
+ghost use mathlib.Core.Bool.{true};
+ghost use lib.Dec.{T};
+ghost use lib.ListN.{length};
+ghost use Rattle.little_endian.specs.Numbers.{u32At};
+ghost use Rattle.readings.specs.Value.{within};
+ghost use Rattle.readings.specs.Readings.{readingOf, connectorVolts, inRange, judgedSteps, judgedAt, judgedOf, wholeUnits, insulated, allowedResistance, resistanceOf};
+
+// How finely readings are judged: so many steps to a volt and to an ampere.
+pub const STEPS_PER_UNIT: u16 = 1;
+
+// One value of the meter board.
+pub enum Reading {
+    Value(f32),
+    Missing,
+}
+
+// What the correction takes: the resistance is the cable's.
+struct Measurement {
+    volts: f32,
+    amperes: f32,
+    resistance: f32,
+}
+
+// A good reading has the volts at the connector and the amperes, in steps.
+pub enum Judged {
+    Good { volts: u16, amperes: u16 },
+    Bad,
+}
+
+impl Reading {
+    // From the float's four bytes, where the input's present bit is set.
+    pub fn from_bytes(bytes: &[u8], present: bool) -> Reading
+        requires { ⌜ length (now bytes) ≡ 4 ⌝ }
+        ensures { λ r. ⌜ r ≡ readingOf present (u32At (now (bytes .entry)) 0) ⌝ }
+    {
+        if present {
+            Reading::Value(float_of(little_endian::u32_at(bytes, 0)))
+        } else {
+            Reading::Missing
+        }
+    }
+}
+
+impl Measurement {
+    fn connector_volts(self) -> f32
+        ensures { λ r. ⌜ r ≡ connectorVolts self ⌝ }
+    {
+        let drop = self.resistance * self.amperes;
+        let volts = self.volts - drop;
+        if volts < 0.0 { 0.0 } else { volts }
+    }
+
+    fn is_in_range(self) -> bool
+        ensures { λ r. ⌜ r ≡ inRange self ⌝ }
+    {
+        is_within(self.volts, 1000) & is_within(self.amperes, 400)
+    }
+
+    fn in_steps(self) -> Judged
+        requires { ⌜ (inRange self ≡ true) × (within 1 (self .resistance) ≡ true) ⌝ }
+        ensures { λ r. ⌜ r ≡ judgedSteps self ⌝ }
+    {
+        Judged::Good {
+            volts: least_steps(self.connector_volts()),
+            amperes: least_steps(self.amperes),
+        }
+    }
+
+    fn judged(self) -> Judged
+        requires { ⌜ within 1 (self .resistance) ≡ true ⌝ }
+        ensures { λ r. ⌜ r ≡ judgedAt self ⌝ }
+    {
+        if self.is_in_range() {
+            self.in_steps()
+        } else {
+            Judged::Bad
+        }
+    }
+}
+
+// The resistance is the cable's, as the float's bits that setup is given and the state keeps.
+pub fn judge(volts: Reading, amperes: Reading, resistance: u32) -> Judged
+    requires { ⌜ allowedResistance resistance ≡ true ⌝ }
+    ensures { λ r. ⌜ r ≡ judgedOf volts amperes (resistanceOf resistance) ⌝ }
+{
+    let Reading::Value(v) = volts else {
+        return Judged::Bad;
+    };
+    let Reading::Value(a) = amperes else {
+        return Judged::Bad;
+    };
+    let m = Measurement {
+        volts: v,
+        amperes: a,
+        resistance: float_of(resistance),
+    };
+    m.judged()
+}
+
+// A figure in steps as the frames show it, in whole volts or amperes.
+pub fn whole_units(steps: u16) -> u16
+    ensures { λ r. ⌜ r ≡ wholeUnits steps ⌝ }
+{
+    let per_unit = STEPS_PER_UNIT as u32;
+    (((steps as u32) + (per_unit - 1)) / per_unit) as u16
+}
+
+// Question 27, of the insulation resistance in ohms.
+pub fn is_insulated(threshold: u16, insulation: Reading) -> bool
+    ensures { λ r. ⌜ r ≡ insulated threshold insulation ⌝ }
+{
+    match insulation {
+        Reading::Value(ohms) => ((100 * (threshold as u32)) as f32) <= ohms,
+        Reading::Missing => true,
+    }
+}
+
+// Setup's question 4, asked of the float's bits.
+pub fn is_allowed_resistance(resistance: u32) -> bool
+    ensures { λ r. ⌜ r ≡ allowedResistance resistance ⌝ }
+{
+    is_within(float_of(resistance), 1)
+}
