@@ -1,3 +1,3 @@
--- Laws that several proofs share.
+-- Laws: the search for the newest frame, and the bounds of times.
 pub mod Newest
 pub mod TimeBounds

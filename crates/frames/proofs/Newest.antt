@@ -5,7 +5,7 @@ use mathlib.Core.List.{List}
 use Prim.Native.Nat.{ℕ, suc, _+_, _*_, _-_}
 use native.Mathlib.Nat.{add-sub-cancel-left}
 use lib.ListN.{take, drop}
-use Rattle.frames.specs.Records.{recordBytes, recordAt, isFrame, lastOf}
+use Rattle.frames.specs.Records.{recordSize, recordAt, isFrame, lastOf}
 
 -- one step: n records are left, and the last of them is m
 module _ (identifier : ℕ) (s : List ℕ) (n m : ℕ) (e : n ≡ suc m) where
@@ -19,5 +19,5 @@ module _ (identifier : ℕ) (s : List ℕ) (n m : ℕ) (e : n ≡ suc m) where
   last-below t = sym (step ∙ ap (λ (b : Bool). cond b (recordAt m s) (lastOf identifier s m)) t)
 
 -- the part that the code takes, from the record's start to its end
-pub part-is : (s : List ℕ) (n : ℕ) → take (recordBytes * n + recordBytes - recordBytes * n) (drop (recordBytes * n) s) ≡ recordAt n s
-part-is s n = ap (λ (k : ℕ). take k (drop (recordBytes * n) s)) (add-sub-cancel-left (recordBytes * n) recordBytes)
+pub part-is : (s : List ℕ) (n : ℕ) → take (recordSize * n + recordSize - recordSize * n) (drop (recordSize * n) s) ≡ recordAt n s
+part-is s n = ap (λ (k : ℕ). take k (drop (recordSize * n) s)) (add-sub-cancel-left (recordSize * n) recordSize)

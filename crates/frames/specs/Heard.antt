@@ -1,11 +1,11 @@
 -- Document 01, 'Frames': what a record of H'100, H'101 or H'102 says. Definitions only.
 -- Each answer's cases: Heard with the document's values, from a whole record; Absent where no record counted, which is [].
-use mathlib.Core.Bool.{Bool, not, cond, _&&_}
+use mathlib.Core.Bool.{Bool, cond, _&&_}
 use mathlib.Core.List.{List}
 use Prim.Native.Nat.{ℕ, _/_, _%_}
 use lib.Dec.{eqb}
 use lib.ListN.{length}
-use Rattle.frames.specs.Records.{recordBytes, dataByte, dataNumber}
+use Rattle.frames.specs.Records.{recordSize, dataByte, dataNumber}
 use Rattle.frames.specs.Times.{bytesOf}
 use Rattle.frames.specs.declared.heard.BatteryFrame.{BatteryFrame}
 use Rattle.frames.specs.declared.heard.BatteryFrame.the-variants as battery
@@ -17,7 +17,7 @@ use Rattle.frames.specs.declared.heard.VehicleStatus.{VehicleStatus}
 use Rattle.frames.specs.declared.heard.VehicleSignals.{VehicleSignals}
 
 abbrev isWhole : List ℕ → Bool
-isWhole r = eqb (length r) recordBytes
+isWhole r = eqb (length r) recordSize
 
 abbrev pub batteryIdentifier : ℕ
 batteryIdentifier = 0x100

@@ -7,11 +7,11 @@ use lib.ListN.{length, getD, take, drop}
 use Rattle.little_endian.specs.Numbers.{u16At}
 
 -- "A frame record is 11 bytes: identifier (2), length (1), data (8)."
-abbrev pub recordBytes : ℕ
-recordBytes = 11
+abbrev pub recordSize : ℕ
+recordSize = 11
 
 abbrev pub recordAt : ℕ → List ℕ → List ℕ
-recordAt n s = take recordBytes (drop (recordBytes * n) s)
+recordAt n s = take recordSize (drop (recordSize * n) s)
 
 -- data byte i, and the number of two bytes that starts there
 abbrev pub dataByte : List ℕ → ℕ → ℕ
@@ -31,4 +31,4 @@ lastOf identifier s (suc n) = cond (isFrame identifier (recordAt n s)) (recordAt
 
 -- of the records that the count takes in; there are no more than the list has whole ones
 unfoldable pub newest : ℕ → ℕ → List ℕ → List ℕ
-newest identifier count s = lastOf identifier s (min count (length s / recordBytes))
+newest identifier count s = lastOf identifier s (min count (length s / recordSize))

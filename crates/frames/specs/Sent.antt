@@ -12,18 +12,19 @@ unfoldable pub offerBytes : Offer → List ℕ
 offerBytes f =
     1 ∷ lowByte (f .volts) ∷ highByte (f .volts) ∷ f .amperes ∷ lowByte (f .threshold) ∷ highByte (f .threshold) ∷ 0 ∷ 0 ∷ []
 
-abbrev pub weight : Bool → ℕ → ℕ
-weight set bit = cond set bit 0
+abbrev pub flag : Bool → ℕ → ℕ
+flag set weight = cond set weight 0
 
--- bits 0 to 5, by their weights
+-- Byte 5, bits 0 to 5 as Table A.32 names them: charger status, charger malfunction, connector lock, battery incompatibility,
+-- charging system malfunction, charging stop control. When each is set is the lead's to say.
 unfoldable pub flagsByte : ChargerFlags → ℕ
 flagsByte f =
-    weight (f .charging) 1
-    + weight (f .malfunction) 2
-    + weight (f .locked) 4
-    + weight (f .incompatible) 8
-    + weight (f .system) 16
-    + weight (f .stopped) 32
+    flag (f .charging) 1
+    + flag (f .malfunction) 2
+    + flag (f .locked) 4
+    + flag (f .incompatible) 8
+    + flag (f .system) 16
+    + flag (f .stopped) 32
 
 -- "H'109 (sent): byte 0 is 2; 1–2 connector volts; 3 amperes, at most 255; 5 flags; 6–7 remaining time; byte 4 is 0."
 unfoldable pub reportBytes : Report → List ℕ

@@ -1,6 +1,5 @@
 // The frames that a car sends: H'100, H'101 and H'102. Each is heard in a tick, or is absent.
-use super::records::DATA;
-use super::records::RECORD_BYTES;
+use super::records::FrameRecord;
 use super::records::newest_record;
 use super::times::ChargingTime;
 use super::times::Minutes;
@@ -53,10 +52,10 @@ impl BatteryFrame {
     fn of(frame: &[u8]) -> BatteryFrame
         ensures { λ r. ⌜ r ≡ batteryOf (now (frame .entry)) ⌝ }
     {
-        if frame.len() != RECORD_BYTES {
+        if frame.len() != FrameRecord::SIZE {
             return BatteryFrame::Absent;
         }
-        BatteryFrame::Heard(u16_at(frame, DATA + BatteryFrame::MAXIMUM_VOLTAGE))
+        BatteryFrame::Heard(u16_at(frame, FrameRecord::DATA + BatteryFrame::MAXIMUM_VOLTAGE))
     }
 
     pub fn newest(records: &[u8], count: u8) -> BatteryFrame
@@ -76,12 +75,12 @@ impl TimeFrame {
     fn of(frame: &[u8]) -> TimeFrame
         ensures { λ r. ⌜ r ≡ timeOf (now (frame .entry)) ⌝ }
     {
-        if frame.len() != RECORD_BYTES {
+        if frame.len() != FrameRecord::SIZE {
             return TimeFrame::Absent;
         }
         TimeFrame::Heard(ChargingTime {
-            tens: TensOfSeconds(frame[DATA + TimeFrame::TENS_OF_SECONDS]),
-            minutes: Minutes(frame[DATA + TimeFrame::MINUTES]),
+            tens: TensOfSeconds(frame[FrameRecord::DATA + TimeFrame::TENS_OF_SECONDS]),
+            minutes: Minutes(frame[FrameRecord::DATA + TimeFrame::MINUTES]),
         })
     }
 
@@ -106,14 +105,14 @@ impl StatusFrame {
     fn of(frame: &[u8]) -> StatusFrame
         ensures { λ r. ⌜ r ≡ statusOf (now (frame .entry)) ⌝ }
     {
-        if frame.len() != RECORD_BYTES {
+        if frame.len() != FrameRecord::SIZE {
             return StatusFrame::Absent;
         }
         StatusFrame::Heard(VehicleStatus {
-            target: u16_at(frame, DATA + StatusFrame::TARGET_VOLTAGE),
-            request: frame[DATA + StatusFrame::REQUESTED_AMPERES],
-            faults: frame[DATA + StatusFrame::FAULTS],
-            flags: frame[DATA + StatusFrame::STATUS],
+            target: u16_at(frame, FrameRecord::DATA + StatusFrame::TARGET_VOLTAGE),
+            request: frame[FrameRecord::DATA + StatusFrame::REQUESTED_AMPERES],
+            faults: frame[FrameRecord::DATA + StatusFrame::FAULTS],
+            flags: frame[FrameRecord::DATA + StatusFrame::STATUS],
         })
     }
 

@@ -10,7 +10,7 @@ pub use heard::StatusFrame;
 pub use heard::TimeFrame;
 pub use heard::VehicleSignals;
 pub use heard::VehicleStatus;
-pub use records::RECORD_BYTES;
+pub use records::FrameRecord;
 pub use sent::ChargerFlags;
 pub use sent::Offer;
 pub use sent::Report;

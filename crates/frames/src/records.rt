@@ -2,24 +2,29 @@
 ghost use mathlib.Core.Path.{_≡_};
 ghost use Prim.Native.Nat.{min};
 ghost use lib.ListN.{length};
-ghost use Rattle.frames.specs.Records.{recordBytes, isFrame, newest};
+ghost use Rattle.frames.specs.Records.{recordSize, isFrame, newest};
 
-pub const RECORD_BYTES: usize = 11;
+// A frame record's size and the places in it.
+pub struct FrameRecord;
 
-const IDENTIFIER: usize = 0;
+impl FrameRecord {
+    pub const SIZE: usize = 11;
 
-const LENGTH: usize = 2;
+    const IDENTIFIER: usize = 0;
 
-pub(crate) const DATA: usize = 3;
+    const LENGTH: usize = 2;
 
-// Only a frame of all eight data bytes counts.
-const DATA_BYTES: u8 = 8;
+    pub(crate) const DATA: usize = 3;
+    // Only a frame of all eight data bytes counts.
+    const DATA_SIZE: u8 = 8;
+}
 
 fn is_frame(frame: &[u8], identifier: u16) -> bool
-    requires { ⌜ length (now frame) ≡ recordBytes ⌝ }
+    requires { ⌜ length (now frame) ≡ recordSize ⌝ }
     ensures { λ r. ⌜ r ≡ isFrame identifier (now (frame .entry)) ⌝ }
 {
-    (little_endian::u16_at(frame, IDENTIFIER) == identifier) & (frame[LENGTH] == DATA_BYTES)
+    (little_endian::u16_at(frame, FrameRecord::IDENTIFIER) == identifier)
+        & (frame[FrameRecord::LENGTH] == FrameRecord::DATA_SIZE)
 }
 
 fn lesser(a: usize, b: usize) -> usize
@@ -32,11 +37,11 @@ fn lesser(a: usize, b: usize) -> usize
 pub(crate) fn newest_record<'a>(records: &'a [u8], count: u8, identifier: u16) -> &'a [u8]
     ensures { λ r. ⌜ now r ≡ newest identifier count (now (records .entry)) ⌝ }
 {
-    let mut n = lesser(count as usize, records.len() / RECORD_BYTES);
+    let mut n = lesser(count as usize, records.len() / FrameRecord::SIZE);
     while 0 < n {
         n -= 1;
-        let at = RECORD_BYTES * n;
-        let end = at + RECORD_BYTES;
+        let at = FrameRecord::SIZE * n;
+        let end = at + FrameRecord::SIZE;
         if is_frame(&records[at..end], identifier) {
             return &records[at..end];
         }

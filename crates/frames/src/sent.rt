@@ -4,7 +4,7 @@ use little_endian::high_byte;
 use little_endian::low_byte;
 ghost use mathlib.Core.Path.{_≡_};
 ghost use Prim.Native.Nat.{_≤_, min};
-ghost use Rattle.frames.specs.Sent.{weight, flagsByte, offerBytes, reportBytes};
+ghost use Rattle.frames.specs.Sent.{flag, flagsByte, offerBytes, reportBytes};
 
 // H'108: rated volts, the amperes on offer, and the threshold voltage (0 before it is kept).
 pub struct Offer {
@@ -35,6 +35,9 @@ pub struct ChargerFlags {
 impl Offer {
     const WELDING_DETECTION: usize = 0;
 
+    // Welding detection is done.
+    const SUPPORTED: u8 = 1;
+
     const VOLTS: usize = 1;
 
     const AMPERES: usize = 3;
@@ -45,7 +48,7 @@ impl Offer {
         ensures { λ r. ⌜ r ≡ offerBytes self ⌝ }
     {
         let mut data = [0u8; 8];
-        data[Offer::WELDING_DETECTION] = 1;
+        data[Offer::WELDING_DETECTION] = Offer::SUPPORTED;
         data[Offer::VOLTS] = low_byte(self.volts);
         data[Offer::VOLTS + 1] = high_byte(self.volts);
         data[Offer::AMPERES] = self.amperes;
@@ -55,11 +58,11 @@ impl Offer {
     }
 }
 
-// The weight of a bit that is set. The bound is stated because the sum of the flags needs it.
-fn weight_of(set: bool, bit: u8) -> u8
-    ensures { λ r. ⌜ (r ≡ weight set bit) × (r ≤ bit) ⌝ }
+// A flag's part in its byte. The bound is stated because the sum of the flags needs it.
+fn flag_value(set: bool, weight: u8) -> u8
+    ensures { λ r. ⌜ (r ≡ flag set weight) × (r ≤ weight) ⌝ }
 {
-    if set { bit } else { 0 }
+    if set { weight } else { 0 }
 }
 
 impl ChargerFlags {
@@ -78,12 +81,12 @@ impl ChargerFlags {
     fn byte(self) -> u8
         ensures { λ r. ⌜ r ≡ flagsByte self ⌝ }
     {
-        weight_of(self.charging, ChargerFlags::CHARGING)
-            + weight_of(self.malfunction, ChargerFlags::MALFUNCTION)
-            + weight_of(self.locked, ChargerFlags::LOCKED)
-            + weight_of(self.incompatible, ChargerFlags::INCOMPATIBLE)
-            + weight_of(self.system, ChargerFlags::SYSTEM)
-            + weight_of(self.stopped, ChargerFlags::STOPPED)
+        flag_value(self.charging, ChargerFlags::CHARGING)
+            + flag_value(self.malfunction, ChargerFlags::MALFUNCTION)
+            + flag_value(self.locked, ChargerFlags::LOCKED)
+            + flag_value(self.incompatible, ChargerFlags::INCOMPATIBLE)
+            + flag_value(self.system, ChargerFlags::SYSTEM)
+            + flag_value(self.stopped, ChargerFlags::STOPPED)
     }
 }
 
@@ -96,6 +99,8 @@ fn capped(amperes: u16) -> u8
 
 impl Report {
     const PROTOCOL: usize = 0;
+
+    const PROTOCOL_NUMBER: u8 = 2;
 
     const VOLTS: usize = 1;
 
@@ -112,7 +117,7 @@ impl Report {
     {
         let flags = self.flags;
         let mut data = [0u8; 8];
-        data[Report::PROTOCOL] = 2;
+        data[Report::PROTOCOL] = Report::PROTOCOL_NUMBER;
         data[Report::VOLTS] = low_byte(self.volts);
         data[Report::VOLTS + 1] = high_byte(self.volts);
         data[Report::AMPERES] = capped(self.amperes);

@@ -11,7 +11,7 @@ fn widened(byte: u8) -> u16
     byte as u16
 }
 
-fn widened_twice(half: u16) -> u32
+fn widened_half(half: u16) -> u32
     ensures { λ r. ⌜ (r ≡ half) × (r < 65536) ⌝ }
 {
     half as u32
@@ -28,7 +28,7 @@ pub fn u32_at(s: &[u8], at: usize) -> u32
     requires { ⌜ at + 4 ≤ length (now s) ⌝ }
     ensures { λ r. ⌜ r ≡ u32At (now (s .entry)) at ⌝ }
 {
-    widened_twice(u16_at(s, at)) + 65536 * widened_twice(u16_at(s, at + 2))
+    widened_half(u16_at(s, at)) + 65536 * widened_half(u16_at(s, at + 2))
 }
 
 pub fn low_byte(x: u16) -> u8

@@ -1,13 +1,14 @@
 -- `least` of a float in range by the fields of its bits: exponent and fraction. Assumes nothing.
 use mathlib.Core.Path.{_≡_, refl, sym, ap, _∙_, subst}
-use mathlib.Core.Bool.{Bool, true, false, cond}
+use mathlib.Core.Bool.{Bool, true, false, not, cond}
 use Prim.Native.Nat.{ℕ, suc, _+_, _-_, _*_, _/_, _%_, _^_, _≤_, _<_}
 use native.Mathlib.Nat.{le-trans, le-of-eq, lt-of-not-le, not-le-of-lt, mul-assoc, mul-pos, mul-le-mul}
 use native.Mathlib.Omega.{arith}
+use borrow.Author.Tests.{lt-ltb, le-ltb}
 use lib.Dec.{T, leb, eqb, lit<, lit≤}
 use lib.Pow.{pow-pos, pow-add, pow-mono}
 use lib.Ieee.{Float, nan, inf, fin, binary32, ofBits, toBits, nanBits, ofFields, odd, fits, isNan}
-use lib.Ieee.Bits.{ofBits-toBits, nanBits-is}
+use lib.Ieee.Bits.{ofBits-toBits, nanBits-is, nanBits-above}
 use lib.Ieee.Digits.{Equals, odd-val}
 use Rattle.readings.specs.Value.{within, least, ceiling, stepsPerUnit}
 use Rattle.readings.proofs.Ceiling as ceilings
@@ -22,9 +23,12 @@ is-nan nan e = refl
 is-nan (inf s) e = cc
 is-nan (fin s m x) e = cc
 
--- every NaN's pattern stands for the one NaN
-pub nan-of-bits : (b : ℕ) → nanBits binary32 b ≡ true → ofBits binary32 b ≡ nan
-nan-of-bits b e = is-nan (ofBits binary32 b) (sym (nanBits-is binary32 b) ∙ e)
+-- above the patterns of infinity are those of NaNs, which all stand for the one NaN
+pub nan-of-bits : (b : ℕ) → 0x7f80_0000 < b % 0x8000_0000 → ofBits binary32 b ≡ nan
+nan-of-bits b h = is-nan (ofBits binary32 b) (sym (nanBits-is binary32 b) ∙ nanBits-above binary32 b ∙ lt-ltb _ _ h)
+
+pub no-nan-bits : (b : ℕ) → b % 0x8000_0000 ≤ 0x7f80_0000 → T (not (nanBits binary32 b))
+no-nan-bits b h = rw (nanBits-above, le-ltb _ _ h) tt
 
 -- ---- the value by the fields: an exponent field of 0 has no leading one, any other has
 

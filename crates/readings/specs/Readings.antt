@@ -24,18 +24,18 @@ connectorVolts m =
     let difference = sub binary32 (m .volts) (mul binary32 (m .resistance) (m .amperes)) in
     cond (lt difference (number 0)) (number 0) difference
 
--- "Both then become the least whole number not below"
-unfoldable pub judgedSteps : Measurement → Judged
-judgedSteps m = Good (least (connectorVolts m)) (least (m .amperes))
+-- "Both then become the least whole number not below."
+unfoldable pub inSteps : Measurement → Judged
+inSteps m = Good (least (connectorVolts m)) (least (m .amperes))
 
-abbrev pub judgedAt : Measurement → Judged
-judgedAt m = cond (inRange m) (judgedSteps m) Bad
+abbrev pub judgedMeasurement : Measurement → Judged
+judgedMeasurement m = cond (inRange m) (inSteps m) Bad
 
--- "It is good if both are present" and in range
-abbrev pub judgedOf : Reading → Reading → Float → Judged
-judgedOf (Value volts) (Value amperes) resistance = judgedAt (record { volts = volts; amperes = amperes; resistance = resistance })
-judgedOf (Value volts) Missing resistance = Bad
-judgedOf Missing amperes resistance = Bad
+-- "It is good if both are present" and in range. The cable resistance is given by its float's bits.
+abbrev pub judgedOf : Reading → Reading → ℕ → Judged
+judgedOf (Value volts) (Value amperes) bits = judgedMeasurement (record { volts = volts; amperes = amperes; resistance = ofBits binary32 bits })
+judgedOf (Value volts) Missing bits = Bad
+judgedOf Missing amperes bits = Bad
 
 -- a judged figure in whole volts or amperes, as frames carry it
 abbrev pub wholeUnits : ℕ → ℕ
@@ -46,10 +46,6 @@ abbrev pub insulated : ℕ → Reading → Bool
 insulated threshold (Value ohms) = le (number (100 * threshold)) ohms
 insulated threshold Missing = true
 
--- the cable resistance that a head's bits stand for
-abbrev pub resistanceOf : ℕ → Float
-resistanceOf bits = ofBits binary32 bits
-
 -- setup's question 4: "Resistance 0 to 1, so no NaN?"
 unfoldable pub allowedResistance : ℕ → Bool
-allowedResistance bits = within 1 (resistanceOf bits)
+allowedResistance bits = within 1 (ofBits binary32 bits)

@@ -1,39 +1,36 @@
--- The starred cases of document 01 that readings show, as one table that the checker computes.
+-- The starred cases of document 01 that readings show, computed by the checker.
 use mathlib.Core.Path.{_≡_, refl}
-use mathlib.Core.Bool.{Bool, true, false, not}
-use mathlib.Core.List.{List, [], _∷_}
-use Prim.Native.Nat.{ℕ, suc}
-use lib.Dec.{eqb}
+use mathlib.Core.Bool.{true, false}
+use mathlib.Core.List.{[], _∷_}
 use lib.IntN.{pos, negsuc}
-use lib.Ieee.{Float, fin, ofInt, le, lt, mul, sub}
+use lib.Ieee.{Float, fin, ofBits, ofInt, le, lt, eq, mul, sub}
 use Rattle.readings.specs.Value.{number, least}
-use Rattle.readings.specs.Readings.{connectorVolts, insulated}
+use Rattle.readings.specs.Readings.{inRange, connectorVolts, inSteps, judgedOf, insulated}
 use Rattle.readings.specs.declared.Reading.the-variants.{Value}
+use Rattle.readings.specs.declared.Judged.the-variants.{Good}
 
--- the places, counted from i, of the rows that are false
-abbrev pub wrong : ℕ → List Bool → List ℕ
-wrong i [] = []
-wrong i (true ∷ rows) = wrong (suc i) rows
-wrong i (false ∷ rows) = i ∷ wrong (suc i) rows
+-- 1601 × 2 ^ -2
+abbrev volts-400-25 : Float
+volts-400-25 = fin false 1601 (negsuc 1)
 
--- volts of the meter, amperes, ohms: the volts judged
-abbrev judgedVolts : Float → Float → Float → ℕ
-judgedVolts v a o = least (connectorVolts (record { volts = v; amperes = a; resistance = o }))
+abbrev minusZero : Float
+minusZero = fin true 0 (pos 0)
 
-abbrev pub starred : List Bool
-starred =
-    -- "400.25 V, no resistance: 401"; 400.25 is 1601 × 2 ^ -2
-    eqb (judgedVolts (fin false 1601 (negsuc 1)) (number 100) (number 0)) 401
-    -- "400 V, 100 A, 0.5 ohm: 350"; 0.5 is 1 × 2 ^ -1
-    ∷ eqb (judgedVolts (number 400) (number 100) (fin false 1 (negsuc 0))) 350
-    -- "Minus zero: 0", of volts and of amperes
-    ∷ eqb (judgedVolts (fin true 0 (pos 0)) (number 0) (number 0)) 0
-    ∷ eqb (least (fin true 0 (pos 0))) 0
-    -- "At 400 V, 40,000 passes, 39,999 doesn't"
-    ∷ insulated 400 (Value (number 40000))
-    ∷ not (insulated 400 (Value (number 39999)))
+pub readings-hold :
+    (
+    -- "400.25 V, no resistance: 401"
+    judgedOf (Value volts-400-25) (Value (number 100)) 0
+    -- "400 V, 100 A, 0.5 ohm: 350"
+    ∷ judgedOf (Value (number 400)) (Value (number 100)) 0x3f00_0000
+    -- "Minus zero: 0", of volts, amperes and resistance
+    ∷ judgedOf (Value minusZero) (Value minusZero) 0x8000_0000
     ∷ []
+    )
+    ≡ (Good 401 100 ∷ Good 350 100 ∷ Good 0 0 ∷ [])
+unfolding inRange inSteps connectorVolts least ofBits ofInt le lt eq mul sub
+readings-hold = refl
 
-pub starred-hold : wrong 0 starred ≡ []
-unfolding least connectorVolts ofInt le lt mul sub
-starred-hold = refl
+-- "At 400 V, 40,000 passes, 39,999 doesn't."
+pub insulation-holds : (insulated 400 (Value (number 40000)) ∷ insulated 400 (Value (number 39999)) ∷ []) ≡ (true ∷ false ∷ [])
+unfolding ofInt le lt eq
+insulation-holds = refl

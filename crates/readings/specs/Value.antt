@@ -1,6 +1,6 @@
 -- The exact value of a float, and the least whole number of steps not below it. Definitions only.
 -- Floats and their operations are those of `lib.Ieee`: `fin s m e` is the number m × 2 ^ e, negative where s is true, and 2 ^ e is the fraction up e / down e.
-use mathlib.Core.Bool.{Bool, true, false, cond, _&&_}
+use mathlib.Core.Bool.{Bool, true, false, _&&_}
 use Prim.Native.Nat.{ℕ, _+_, _-_, _*_, _/_, _≤_}
 use lib.IntN.{pos}
 use lib.Ieee.{Float, nan, inf, fin, up, down, binary32, le, ofInt}
@@ -17,7 +17,7 @@ within top x = le (number 0) x && le x (number top)
 abbrev pub ceiling : ℕ → ℕ → ℕ
 ceiling a c = (a + (c - 1)) / c
 
--- "Both then become the least whole number not below": so many steps to a volt and to an ampere
+-- readings are judged in steps, so many to a volt and to an ampere; with 1, in whole volts and amperes
 abbrev pub stepsPerUnit : ℕ
 stepsPerUnit = 1
 

@@ -6,7 +6,7 @@ ghost use Prim.Native.Nat.{_^_, _<_};
 ghost use lib.Ieee.{binary32, ofBits};
 ghost use Rattle.readings.specs.Value.{within, ceiling, least};
 
-// Each pattern of a NaN becomes the one NaN, which `from_bits` does not take.
+// `from_bits` takes no pattern of a NaN: each becomes the one NaN.
 pub(crate) fn float_of(bits: u32) -> f32
     ensures { λ r. ⌜ r ≡ ofBits binary32 bits ⌝ }
 {
@@ -32,7 +32,7 @@ fn rounded_up(n: u64, by: u32) -> u64
     (n + (unit - 1)) >> by
 }
 
-// A float's bits are sign, exponent and fraction. An exponent of 120 or less stands for a value below 1 / 64.
+// By the exponent and fraction fields. An exponent field below 120 is a value below 1 / 128, less than a step.
 pub(crate) fn least_steps(x: f32) -> u16
     requires { ⌜ within 1000 x ≡ true ⌝ }
     ensures { λ r. ⌜ r ≡ least x ⌝ }

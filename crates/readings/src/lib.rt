@@ -7,11 +7,10 @@ use floats::is_within;
 use floats::least_steps;
 ghost use mathlib.Core.Path.{_≡_};
 ghost use mathlib.Core.Bool.{true};
-ghost use lib.Dec.{T};
 ghost use lib.ListN.{length};
 ghost use Rattle.little_endian.specs.Numbers.{u32At};
 ghost use Rattle.readings.specs.Value.{within};
-ghost use Rattle.readings.specs.Readings.{readingOf, connectorVolts, inRange, judgedSteps, judgedAt, judgedOf, wholeUnits, insulated, allowedResistance, resistanceOf};
+ghost use Rattle.readings.specs.Readings.{readingOf, connectorVolts, inRange, inSteps, judgedMeasurement, judgedOf, wholeUnits, insulated, allowedResistance};
 
 // How finely readings are judged: so many steps to a volt and to an ampere.
 pub const STEPS_PER_UNIT: u16 = 1;
@@ -66,7 +65,7 @@ impl Measurement {
 
     fn in_steps(self) -> Judged
         requires { ⌜ (inRange self ≡ true) × (within 1 (self .resistance) ≡ true) ⌝ }
-        ensures { λ r. ⌜ r ≡ judgedSteps self ⌝ }
+        ensures { λ r. ⌜ r ≡ inSteps self ⌝ }
     {
         Judged::Good {
             volts: least_steps(self.connector_volts()),
@@ -76,7 +75,7 @@ impl Measurement {
 
     fn judged(self) -> Judged
         requires { ⌜ within 1 (self .resistance) ≡ true ⌝ }
-        ensures { λ r. ⌜ r ≡ judgedAt self ⌝ }
+        ensures { λ r. ⌜ r ≡ judgedMeasurement self ⌝ }
     {
         if self.is_in_range() {
             self.in_steps()
@@ -89,7 +88,7 @@ impl Measurement {
 // The resistance is the cable's, as the float's bits that setup is given and the state keeps.
 pub fn judge(volts: Reading, amperes: Reading, resistance: u32) -> Judged
     requires { ⌜ allowedResistance resistance ≡ true ⌝ }
-    ensures { λ r. ⌜ r ≡ judgedOf volts amperes (resistanceOf resistance) ⌝ }
+    ensures { λ r. ⌜ r ≡ judgedOf volts amperes resistance ⌝ }
 {
     let Reading::Value(v) = volts else {
         return Judged::Bad;

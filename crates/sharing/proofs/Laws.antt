@@ -1,6 +1,5 @@
 -- The laws of the level. They hold however it is found. Assumes nothing.
-use mathlib.Core.Bool.{Bool, true}
-use mathlib.Core.Path.{_≡_, refl, sym, ap, _∙_}
+use mathlib.Core.Path.{_≡_, refl, ap, _∙_}
 use mathlib.Core.Logic.{_⊎_, inl, inr}
 use Prim.Native.Nat.{ℕ, zero, suc, _+_, _-_, _*_, _/_, _≤_, _<_, min}
 use native.Mathlib.Nat.{le-antisymm, le-trans, lt-of-not-le, not-le-of-lt, div-mul-le-self, div-le-self}
@@ -8,7 +7,7 @@ use native.Mathlib.Numerals.{unary-clauses}
 use native.Mathlib.Omega.{arith}
 use lib.Dec.{leb}
 use borrow.Author.Tests.{leb-true, le-leb}
-use Rattle.sharing.specs.Level.{sum, given, fits, largest, levelOf, oneIfAny, equalPart}
+use Rattle.sharing.specs.Level.{sum, given, fits, levelOf, oneIfAny, equalPart}
 use Rattle.sharing.proofs.Sums.{sum-le, sum-times, largest-within, largest-passes, largest-most, largest-same}
 
 module _ (n : ℕ) (wants : ℕ → ℕ) where

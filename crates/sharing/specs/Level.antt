@@ -5,10 +5,11 @@ use Prim.Native.Nat.{ℕ, zero, suc, _+_, _/_, min}
 use lib.Dec.{leb}
 use lib.ListN.{getD}
 
--- wants are a function from the place, of which there are n; a list's wants are 0 past its end
+-- a post has up to four leads
 abbrev pub places : ℕ
 places = 4
 
+-- wants are a function from the place; a list's are 0 past its end
 abbrev pub wantAt : List ℕ → ℕ → ℕ
 wantAt wants k = getD wants k 0
 
@@ -33,6 +34,7 @@ largest test (suc top) = cond (test (suc top)) (suc top) (largest test top)
 unfoldable pub levelOf : ℕ → (ℕ → ℕ) → ℕ → ℕ
 levelOf n wants limit = largest (fits n wants limit) limit
 
+-- 1 for a want above 0
 abbrev pub oneIfAny : ℕ → ℕ
 oneIfAny zero = 0
 oneIfAny (suc want) = 1

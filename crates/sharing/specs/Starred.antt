@@ -2,12 +2,13 @@
 use mathlib.Core.Path.{_≡_, refl}
 use mathlib.Core.List.{List, [], _∷_}
 use Prim.Native.Nat.{ℕ}
-use Rattle.sharing.specs.Level.{places, wantAt, given, levelOf}
+use lib.ListN.{length}
+use Rattle.sharing.specs.Level.{wantAt, given, levelOf}
 
 abbrev levelFor : List ℕ → ℕ → ℕ
-levelFor wants limit = levelOf places (wantAt wants) limit
+levelFor wants limit = levelOf (length wants) (wantAt wants) limit
 
-pub starred-hold :
+pub levels-hold :
     (
     -- "Wants 10,000 and 60,000, allowance 50,000: level 40,000"
     levelFor (10000 ∷ 60000 ∷ []) 50000
@@ -23,4 +24,4 @@ pub starred-hold :
     )
     ≡ (40000 ∷ 25000 ∷ 7 ∷ 66 ∷ 0 ∷ [])
 unfolding levelOf given
-starred-hold = refl
+levels-hold = refl

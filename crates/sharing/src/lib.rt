@@ -28,7 +28,7 @@ fn given_at(wants: [u32; PLACES], level: u32) -> u64
         + widened(lesser(wants[3], level))
 }
 
-// Halves the range in which the level lies: `low` fits, and what is above `high` does not.
+// Halves the range in which the level lies: `low` fits, and nothing from `high` + 1 to the limit does.
 pub fn level(wants: [u32; PLACES], limit: u32) -> u32
     ensures { λ r. ⌜ r ≡ levelOf places (wantAt wants) limit ⌝ }
 {

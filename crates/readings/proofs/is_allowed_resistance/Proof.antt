@@ -1,5 +1,6 @@
-use Rattle.readings.specs.Readings.{allowedResistance}
+-- `readings::is_allowed_resistance` meets its contract. Two promises, one after the other. Assumes nothing.
 use borrow.Author.Needs.{needs}
+use Rattle.readings.specs.Readings.{allowedResistance}
 use Rattle.readings.proofs.is_allowed_resistance.Statement.{statement}
 use Rattle.readings.proofs.is_allowed_resistance.Tie as tie
 

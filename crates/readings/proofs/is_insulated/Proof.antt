@@ -1,9 +1,10 @@
+-- `readings::is_insulated` meets its contract. By cases of the reading; 100 times a number of two bytes is exact as a float. Assumes nothing.
+use borrow.Author.Needs.{needs}
 use lib.Ieee.{inFloat}
 use Prim.Native.Nat.{_*_, _≤_}
 use native.Mathlib.Omega.{arith}
 use borrow.Author.Tests.{le-leb}
 use denote.Floats.{passes}
-use borrow.Author.Needs.{needs}
 use Rattle.readings.proofs.is_insulated.Statement.{statement}
 use Rattle.readings.proofs.is_insulated.Tie as tie
 

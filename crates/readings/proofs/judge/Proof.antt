@@ -1,7 +1,8 @@
+-- `readings::judge` meets its contract. By cases of the two readings. Assumes nothing.
+use borrow.Author.Needs.{needs}
 use mathlib.Core.Path.{ap, _∙_}
 use Rattle.readings.specs.Value.{within}
 use Rattle.readings.specs.Readings.{allowedResistance}
-use borrow.Author.Needs.{needs}
 use Rattle.readings.proofs.judge.Statement.{statement}
 use Rattle.readings.proofs.judge.Tie as tie
 

@@ -1,5 +1,6 @@
-use Rattle.sharing.specs.Level.{given}
+-- `sharing::given_at` meets its contract. A sum of four. Assumes nothing.
 use borrow.Author.Needs.{needs}
+use Rattle.sharing.specs.Level.{given}
 use Rattle.sharing.proofs.given_at.Statement.{statement}
 use Rattle.sharing.proofs.given_at.Tie as tie
 

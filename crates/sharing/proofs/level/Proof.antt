@@ -1,3 +1,4 @@
+-- `sharing::level` meets its contract. The loop's invariant: `low` fits, and `high` is the limit or one more than it does not fit. `level-is` ends it. Assumes nothing.
 use borrow.Author.Needs.{needs}
 use mathlib.Core.Path.{_≡_, refl, subst}
 use mathlib.Core.Logic.{_⊎_, inl, inr}
@@ -26,8 +27,7 @@ loop-again c =
     let k = c .before .before in
     let l = k .before .before .loop in
     let a = k .before .before .before .args in
-    let t : given places (wantAt (a .wants)) (l .high - (l .high - l .low) / 2) ≤ a .limit
-    = omega (arith, k .given-at .ensures, c .before .widened .ensures .0, c .if1 .taken) in
+    let t : given places (wantAt (a .wants)) (l .high - (l .high - l .low) / 2) ≤ a .limit = omega (arith, k .given-at .ensures, c .before .widened .ensures .0, c .if1 .taken) in
     (omega arith, omega arith, t, l .inv .3)
 
 loop-again-2 : tie.Need-loop-again-2 Inv-loop μ-loop
@@ -36,8 +36,7 @@ loop-again-2 c =
     let l = k .before .before .loop in
     let a = k .before .before .before .args in
     let middle = l .high - (l .high - l .low) / 2 in
-    let t : a .limit < given places (wantAt (a .wants)) middle
-    = omega (arith, k .given-at .ensures, c .before .widened .ensures .0, c .if1 .left) in
+    let t : a .limit < given places (wantAt (a .wants)) middle = omega (arith, k .given-at .ensures, c .before .widened .ensures .0, c .if1 .left) in
     let e : middle ≡ middle - 1 + 1 = omega arith in
     (omega arith, omega arith, l .inv .2, inr (subst (λ (m : ℕ). a .limit < given places (wantAt (a .wants)) m) e t))
 

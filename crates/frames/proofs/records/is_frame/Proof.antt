@@ -1,5 +1,6 @@
-use Rattle.frames.specs.Records.{isFrame}
+-- `frames::records::is_frame` meets its contract. The test is the rule's, by computation. Assumes nothing.
 use borrow.Author.Needs.{needs}
+use Rattle.frames.specs.Records.{isFrame}
 use Rattle.frames.proofs.records.is_frame.Statement.{statement}
 use Rattle.frames.proofs.records.is_frame.Tie as tie
 

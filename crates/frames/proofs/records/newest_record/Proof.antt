@@ -1,17 +1,18 @@
+-- `frames::records::newest_record` meets its contract. The loop's invariant: the newest of the records not yet passed is the newest of all. `last-here` and `last-below` are one turn. Assumes nothing.
 use borrow.Author.Needs.{needs}
 use mathlib.Core.Path.{_≡_, sym, ap, _∙_}
 use mathlib.Core.Bool.{true, false}
-use Prim.Native.Nat.{ℕ, _*_, _-_, _≤_}
+use Prim.Native.Nat.{_*_, _-_, _≤_}
 use native.Mathlib.Omega.{arith}
 use lib.ListN.{length}
 use denote.Ref.{now}
-use Rattle.frames.specs.Records.{recordBytes, recordAt, isFrame, lastOf, newest}
+use Rattle.frames.specs.Records.{recordSize, recordAt, isFrame, lastOf, newest}
 use Rattle.frames.proofs.Newest.{last-here, last-below, part-is}
 use Rattle.frames.proofs.records.newest_record.Statement.{statement}
 use Rattle.frames.proofs.records.newest_record.Tie as tie
 
 abbrev Inv-loop : tie.InvT-loop
-Inv-loop records count identifier n₀ n = (recordBytes * n ≤ length records) × (lastOf identifier records n ≡ newest identifier count records)
+Inv-loop records count identifier n₀ n = (recordSize * n ≤ length records) × (lastOf identifier records n ≡ newest identifier count records)
 
 abbrev μ-loop : tie.MeasureT-loop
 μ-loop records count identifier n₀ n = n
@@ -25,16 +26,14 @@ returns c =
     let k = c .before .before .before .before in
     let l = k .before .loop in
     let a = k .before .before .before .before .args in
-    let t : isFrame (a .identifier) (recordAt (l .n - 1) (now (a .records))) ≡ true
-    = ap (isFrame (a .identifier)) (sym (part-is (now (a .records)) (l .n - 1))) ∙ sym (c .before .before .is-frame .ensures) ∙ c .before .if1 .taken in
+    let t : isFrame (a .identifier) (recordAt (l .n - 1) (now (a .records))) ≡ true = ap (isFrame (a .identifier)) (sym (part-is (now (a .records)) (l .n - 1))) ∙ sym (c .before .before .is-frame .ensures) ∙ c .before .if1 .taken in
     part-is (now (a .records)) (l .n - 1) ∙ last-here (a .identifier) (now (a .records)) (l .n) (l .n - 1) (omega arith) t ∙ l .inv .1
 
 loop-again : tie.Need-loop-again Inv-loop μ-loop
 loop-again c =
     let l = c .before .before .before .before .loop in
     let a = c .before .before .before .before .before .before .before .args in
-    let t : isFrame (a .identifier) (recordAt (l .n - 1) (now (a .records))) ≡ false
-    = ap (isFrame (a .identifier)) (sym (part-is (now (a .records)) (l .n - 1))) ∙ sym (c .before .is-frame .ensures) ∙ c .if1 .left in
+    let t : isFrame (a .identifier) (recordAt (l .n - 1) (now (a .records))) ≡ false = ap (isFrame (a .identifier)) (sym (part-is (now (a .records)) (l .n - 1))) ∙ sym (c .before .is-frame .ensures) ∙ c .if1 .left in
     (omega arith, last-below (a .identifier) (now (a .records)) (l .n) (l .n - 1) (omega arith) t ∙ l .inv .1)
 
 returns-2 : tie.Need-returns-2 Inv-loop μ-loop

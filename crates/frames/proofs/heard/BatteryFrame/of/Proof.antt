@@ -1,6 +1,7 @@
+-- `frames::heard::BatteryFrame::of` meets its contract. By the length of the record. Assumes nothing.
+use borrow.Author.Needs.{needs}
 use borrow.Author.Tests.{eq-eqb, ne-eqb}
 use Rattle.frames.specs.Heard.{batteryOf}
-use borrow.Author.Needs.{needs}
 use Rattle.frames.proofs.heard.BatteryFrame.of.Statement.{statement}
 use Rattle.frames.proofs.heard.BatteryFrame.of.Tie as tie
 

@@ -1,6 +1,7 @@
+-- `frames::heard::TimeFrame::of` meets its contract. By the length of the record. Assumes nothing.
+use borrow.Author.Needs.{needs}
 use borrow.Author.Tests.{eq-eqb, ne-eqb}
 use Rattle.frames.specs.Heard.{timeOf}
-use borrow.Author.Needs.{needs}
 use Rattle.frames.proofs.heard.TimeFrame.of.Statement.{statement}
 use Rattle.frames.proofs.heard.TimeFrame.of.Tie as tie
 

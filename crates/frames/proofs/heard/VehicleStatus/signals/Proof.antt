@@ -1,3 +1,4 @@
+-- `frames::heard::VehicleStatus::signals` meets its contract. The tests are the rule's, by computation. Assumes nothing.
 use mathlib.Core.Path.{refl}
 use Rattle.frames.specs.Heard.{signalsOf}
 use Rattle.frames.proofs.heard.VehicleStatus.signals.Statement.{statement}

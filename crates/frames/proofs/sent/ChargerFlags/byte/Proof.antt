@@ -1,5 +1,6 @@
-use Rattle.frames.specs.Sent.{flagsByte}
+-- `frames::sent::ChargerFlags::byte` meets its contract. A sum of six weights. Assumes nothing.
 use borrow.Author.Needs.{needs}
+use Rattle.frames.specs.Sent.{flagsByte}
 use Rattle.frames.proofs.sent.ChargerFlags.byte.Statement.{statement}
 use Rattle.frames.proofs.sent.ChargerFlags.byte.Tie as tie
 
@@ -7,7 +8,7 @@ returns : tie.Need-returns
 unfolding flagsByte
 returns c =
     let k = c .before .before .before in
-    rw (c .weight-of6 .ensures .0, c .before .weight-of5 .ensures .0, c .before .before .weight-of4 .ensures .0, k .weight-of3 .ensures .0, k .before .weight-of2 .ensures .0, k .before .before .weight-of .ensures .0)
+    rw (c .flag-value6 .ensures .0, c .before .flag-value5 .ensures .0, c .before .before .flag-value4 .ensures .0, k .flag-value3 .ensures .0, k .before .flag-value2 .ensures .0, k .before .before .flag-value .ensures .0)
 
 pub byte-spec : {M : Type 1} → statement M
 byte-spec =

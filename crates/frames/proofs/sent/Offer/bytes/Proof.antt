@@ -1,5 +1,6 @@
-use Rattle.frames.specs.Sent.{offerBytes}
+-- `frames::sent::Offer::bytes` meets its contract. The stores compute; the halves of the numbers are what little_endian promises. Assumes nothing.
 use borrow.Author.Needs.{needs}
+use Rattle.frames.specs.Sent.{offerBytes}
 use Rattle.frames.proofs.sent.Offer.bytes.Statement.{statement}
 use Rattle.frames.proofs.sent.Offer.bytes.Tie as tie
 

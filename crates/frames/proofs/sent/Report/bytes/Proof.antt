@@ -1,5 +1,6 @@
-use Rattle.frames.specs.Sent.{reportBytes}
+-- `frames::sent::Report::bytes` meets its contract. The stores compute; halves, cap and flags are what their functions promise. Assumes nothing.
 use borrow.Author.Needs.{needs}
+use Rattle.frames.specs.Sent.{reportBytes}
 use Rattle.frames.proofs.sent.Report.bytes.Statement.{statement}
 use Rattle.frames.proofs.sent.Report.bytes.Tie as tie
 

@@ -1,9 +1,10 @@
+-- `frames::times::ChargingTime::remaining` meets its contract. By the unit that byte 1 names; what is left fits its byte by `minutes-fit` and `tens-fit`. Assumes nothing.
+use borrow.Author.Needs.{needs}
 use Prim.Native.Nat.{_-_, _<_}
 use mathlib.Core.Path.{sym, _∙_}
 use native.Mathlib.Omega.{arith}
 use Rattle.frames.specs.Times.{remainingTime}
 use Rattle.frames.proofs.TimeBounds.{minutes-fit, tens-fit}
-use borrow.Author.Needs.{needs}
 use Rattle.frames.proofs.times.ChargingTime.remaining.Statement.{statement}
 use Rattle.frames.proofs.times.ChargingTime.remaining.Tie as tie
 

@@ -1,6 +1,7 @@
+-- `frames::times::ChargingTime::ticks` meets its contract. By the unit that byte 1 names. Assumes nothing.
+use borrow.Author.Needs.{needs}
 use mathlib.Core.Path.{sym, _∙_}
 use Rattle.frames.specs.Times.{chargingTicks}
-use borrow.Author.Needs.{needs}
 use Rattle.frames.proofs.times.ChargingTime.ticks.Statement.{statement}
 use Rattle.frames.proofs.times.ChargingTime.ticks.Tie as tie
 
