@@ -24,7 +24,7 @@ dataNumber r i = u16At r (3 + i)
 unfoldable pub isFrame : ℕ → List ℕ → Bool
 isFrame identifier r = eqb (u16At r 0) identifier && eqb (getD r 2 0) 8
 
--- "Of several with one identifier in a tick, the last counts": the last of the first n records, [] where none is such a frame
+-- "Of several with one identifier in a tick, the last counts": the last such frame among the first n records, [] where there is none
 abbrev pub lastOf : ℕ → List ℕ → ℕ → List ℕ
 lastOf identifier s zero = []
 lastOf identifier s (suc n) = cond (isFrame identifier (recordAt n s)) (recordAt n s) (lastOf identifier s n)

@@ -2,61 +2,26 @@
 use mathlib.Core.Path.{_≡_, refl, sym, ap, _∙_, subst}
 use mathlib.Core.Bool.{Bool, true, false, not, cond, _&&_}
 use Prim.Native.Nat.{ℕ, zero, suc, _+_, _-_, _*_, _^_, _≤_, _<_}
-use native.Mathlib.Nat.{zero-mul, mul-zero, mul-one, mul-pos, mul-right-comm, mul-assoc, mul-le-mul-right, le-trans, le-of-eq, le-of-mul-le-mul-right}
+use native.Mathlib.Nat.{zero-mul, mul-zero, mul-one, mul-pos, mul-assoc, mul-le-mul-right, le-trans, le-of-eq}
 use native.Mathlib.Omega.{arith}
 use borrow.Author.Tests.{not-false, ltb-false}
-use lib.IntN.{ℤ, pos}
-use lib.Dec.{T, ltb, eqb, lit<, lit≤, lt→ltb}
+use lib.IntN.{pos}
+use lib.Dec.{T, ltb, eqb, lit<}
 use lib.Ieee.{Float, nan, inf, fin, up, down, binary32, unlike, le, lt, eq, ofInt, round, units, odd, sum, add, sub, neg, mul, isNan}
 use lib.Ieee.Fits.{and-i, eq→eqb, down-pos, round-is}
-use lib.Ieee.Back.{round-whole}
-use lib.Ieee.Exact.{HasValue}
 use lib.Ieee.Order.{round-mono, le-of-values}
 use lib.Ieee.Scale.{round-same}
 use Rattle.readings.specs.Value.{number, within}
 use Rattle.readings.specs.Readings.{connectorVolts}
 use Rattle.readings.specs.declared.Measurement.{Measurement}
-use Rattle.readings.proofs.Tests.{or-left}
-use Rattle.readings.proofs.InRange.{lower, upper, sized, minus-zero, at-most, no-nan, no-inf}
-
--- ---- a range within another
-
-exact : (n : ℕ) → n ≤ 2 ^ 24 → HasValue (number n) false n 1
-unfolding ofInt
-exact n h = round-whole binary32 false n h
-
--- minus zero is below 1000
-negative-below : (m : ℕ) (e : ℤ) → T (le (fin true m e) (number 1000))
-unfolding le lt eq ofInt
-negative-below m e = or-left (lt (fin true m e) (number 1000)) (eq (fin true m e) (number 1000)) (lt→ltb 0 (m * up e * 1 + 1000 * down e) (let p : 0 < down e = down-pos e in omega arith))
-
-cap : (n : ℕ) (x y : Float) → n ≤ 1000 → HasValue y false n 1 → T (le (number 0) x) → T (le x y) → T (le x (number 1000))
-unfolding le lt eq ofInt
-cap n x nan h v l u = absurd v
-cap n x (inf s) h v l u = absurd v
-cap n nan (fin s k d) h v l u = absurd u
-cap n (inf true) (fin s k d) h v l u = absurd l
-cap n (inf false) (fin s k d) h v l u = absurd u
-cap n (fin true m e) (fin s k d) h v l u = negative-below m e
-cap n (fin false m e) (fin true k d) h v l u = absurd (subst T (v .0) tt)
-cap n (fin false m e) (fin false k d) h v l u =
-    let a : m * up e * down d ≤ k * up d * down e = at-most (m * up e * down d) (k * up d * down e) _ u in
-    let b : k * up d ≡ n * down d = sym (mul-one (k * up d)) ∙ v .1 in
-    let c : m * up e ≤ n * down e = le-of-mul-le-mul-right (le-trans a (le-of-eq (ap (λ (j : ℕ). j * down e) b ∙ mul-right-comm n (down d) (down e)))) (down-pos d) in
-    le-of-values (fin false m e) (number 1000) (m * up e) (down e) 1000 1 (down-pos e) (lit< tt) (refl, refl) (exact 1000 (lit≤ tt))
-    (le-trans (le-of-eq (mul-one (m * up e))) (le-trans c (mul-le-mul-right (down e) h)))
-
-pub wider : (n : ℕ) (x : Float) → n ≤ 1000 → T (within n x) → T (within 1000 x)
-wider n x h t =
-    and-i (le (number 0) x) (le x (number 1000)) (lower n x t)
-    (cap n x (number n) h (exact n (le-trans h (lit≤ tt))) (lower n x t) (upper n x t))
+use Rattle.readings.proofs.InRange.{lower, sized, minus-zero, no-nan, no-inf, minus-below}
 
 -- ---- a rounded number is at most 1000 where the exact one is, or where its sign says negative
 
 odd-below : (q k : ℕ) → T (le (odd 25 true q k 149) (number 1000))
 unfolding odd
-odd-below zero k = negative-below 0 (pos 0)
-odd-below (suc q) k = negative-below _ _
+odd-below zero k = minus-below 0 (pos 0)
+odd-below (suc q) k = minus-below _ _
 
 units-below : (q k : ℕ) → T (le (units binary32 true q k) (number 1000))
 unfolding units le lt ofInt
@@ -80,7 +45,7 @@ zero-rounded s c p = round-same binary32 s 0 c 0 1 p (lit< tt) (sym (zero-mul c)
 
 -- ---- the difference
 
--- a / c less b / c, where b is 0 if it has the sign of a sum
+-- two fractions of one denominator with their signs, the first in range; the second is 0 where it would add
 sum-capped : (s t : Bool) (a b c : ℕ) → 0 < c → a ≤ 1000 * c → (t ≡ false → b ≡ 0) → T (le (sum binary32 s a t b c) (number 1000))
 unfolding sum
 sum-capped true true a b c p h z = below-zero (a + b) c
@@ -96,40 +61,41 @@ sum-capped false true a b c p h z = go (ltb a b)
     go true = below-zero (b - a) c
     go false = capped false (a - b) c p (λ e. (omega arith))
 
--- ---- the product: no NaN, no negative infinity, and zero where its sign says negative
-abbrev Fine : Float → Type 0
-Fine nan = ⊥
-Fine (inf s) = s ≡ false
-Fine (fin s m e) = s ≡ true → m * up e ≡ 0
+-- ---- the product is not negative: no NaN, no negative infinity, and zero where its sign says minus
+
+abbrev NonNegative : Float → Type 0
+NonNegative nan = ⊥
+NonNegative (inf s) = s ≡ false
+NonNegative (fin s m e) = s ≡ true → m * up e ≡ 0
 
 no-sign : {A : Type 0} → _≡_ {A = Bool} false true → A
 no-sign e = absurd (subst T (sym e) tt)
 
-fine-odd : (q k : ℕ) → Fine (odd 25 false q k 149)
+nonnegative-odd : (q k : ℕ) → NonNegative (odd 25 false q k 149)
 unfolding odd
-fine-odd zero k = no-sign
-fine-odd (suc q) k = no-sign
+nonnegative-odd zero k = no-sign
+nonnegative-odd (suc q) k = no-sign
 
-fine-units : (q k : ℕ) → Fine (units binary32 false q k)
+nonnegative-units : (q k : ℕ) → NonNegative (units binary32 false q k)
 unfolding units
-fine-units q k = go (ltb (q * 2 ^ k) (2 ^ 277))
+nonnegative-units q k = go (ltb (q * 2 ^ k) (2 ^ 277))
   where
-    go : (b : Bool) → Fine (cond b (odd 25 false q k 149) (inf false))
-    go true = fine-odd q k
+    go : (b : Bool) → NonNegative (cond b (odd 25 false q k 149) (inf false))
+    go true = nonnegative-odd q k
     go false = refl
 
-fine-round : (s : Bool) (n c : ℕ) → 0 < c → (s ≡ true → n ≡ 0) → Fine (round binary32 s n c)
-fine-round true n c p h = subst Fine (sym (ap (λ (k : ℕ). round binary32 true k c) (h refl) ∙ zero-rounded true c p)) (λ e. refl)
-fine-round false n c p h = subst Fine (sym (round-is binary32 false n c)) (fine-units _ _)
+nonnegative-round : (s : Bool) (n c : ℕ) → 0 < c → (s ≡ true → n ≡ 0) → NonNegative (round binary32 s n c)
+nonnegative-round true n c p h = subst NonNegative (sym (ap (λ (k : ℕ). round binary32 true k c) (h refl) ∙ zero-rounded true c p)) (λ e. refl)
+nonnegative-round false n c p h = subst NonNegative (sym (round-is binary32 false n c)) (nonnegative-units _ _)
 
-fine-mul : (x y : Float) → T (within 1000 x) → T (within 1000 y) → Fine (mul binary32 x y)
+nonnegative-mul : (x y : Float) → T (within 1000 x) → T (within 1000 y) → NonNegative (mul binary32 x y)
 unfolding mul isNan
-fine-mul nan y t u = absurd (no-nan nan t)
-fine-mul (inf s) y t u = absurd (no-inf s t)
-fine-mul (fin s m e) nan t u = absurd (no-nan nan u)
-fine-mul (fin s m e) (inf r) t u = absurd (no-inf r u)
-fine-mul (fin s m e) (fin r n d) t u =
-    fine-round (unlike s r) (m * up e * (n * up d)) (down e * down d) (mul-pos (down-pos e) (down-pos d)) (zero-if s r t u)
+nonnegative-mul nan y t u = absurd (no-nan nan t)
+nonnegative-mul (inf s) y t u = absurd (no-inf s t)
+nonnegative-mul (fin s m e) nan t u = absurd (no-nan nan u)
+nonnegative-mul (fin s m e) (inf r) t u = absurd (no-inf r u)
+nonnegative-mul (fin s m e) (fin r n d) t u =
+    nonnegative-round (unlike s r) (m * up e * (n * up d)) (down e * down d) (mul-pos (down-pos e) (down-pos d)) (zero-if s r t u)
   where
     zero-if : (s r : Bool) → T (within 1000 (fin s m e)) → T (within 1000 (fin r n d)) → unlike s r ≡ true → m * up e * (n * up d) ≡ 0
     zero-if true r t u z = ap (λ (k : ℕ). k * (n * up d)) (minus-zero m e (lower 1000 (fin true m e) t)) ∙ zero-mul (n * up d)
@@ -138,7 +104,7 @@ fine-mul (fin s m e) (fin r n d) t u =
 
 -- ---- the volts at the connector
 
-sub-capped : (v p : Float) → T (within 1000 v) → Fine p → T (le (sub binary32 v p) (number 1000))
+sub-capped : (v p : Float) → T (within 1000 v) → NonNegative p → T (le (sub binary32 v p) (number 1000))
 unfolding sub add neg isNan le lt ofInt
 sub-capped nan p t f = absurd (no-nan nan t)
 sub-capped (inf s) p t f = absurd (no-inf s t)
@@ -174,7 +140,7 @@ connector-within m hv ha hr = go (lt d (number 0)) refl
     d = sub binary32 (m .volts) (mul binary32 (m .resistance) (m .amperes))
 
     top : T (le d (number 1000))
-    top = sub-capped (m .volts) (mul binary32 (m .resistance) (m .amperes)) hv (fine-mul (m .resistance) (m .amperes) hr ha)
+    top = sub-capped (m .volts) (mul binary32 (m .resistance) (m .amperes)) hv (nonnegative-mul (m .resistance) (m .amperes) hr ha)
 
     go : (b : Bool) → lt d (number 0) ≡ b → T (within 1000 (cond b (number 0) d))
     go true e = tt
