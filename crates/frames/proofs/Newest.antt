@@ -1,10 +1,12 @@
--- A search from the last record down finds the newest frame. Assumes nothing.
+-- A search from the last record down finds the newest frame, and what it says is said of a whole record. Assumes nothing.
 use mathlib.Core.Path.{_≡_, sym, ap, _∙_}
 use mathlib.Core.Bool.{Bool, true, false, cond}
 use mathlib.Core.List.{List}
 use Prim.Native.Nat.{ℕ, suc, _+_, _*_, _-_}
 use native.Mathlib.Nat.{add-sub-cancel-left}
-use lib.ListN.{take, drop}
+use borrow.Author.Tests.{eq-eqb, ne-eqb}
+use lib.Dec.{eqb}
+use lib.ListN.{length, take, drop}
 use Rattle.frames.specs.Records.{recordSize, recordAt, isFrame, lastOf}
 
 -- one step: n records are left, and the last of them is m
@@ -21,3 +23,11 @@ module _ (identifier : ℕ) (s : List ℕ) (n m : ℕ) (e : n ≡ suc m) where
 -- the part that the code takes, from the record's start to its end
 pub part-is : (s : List ℕ) (n : ℕ) → take (recordSize * n + recordSize - recordSize * n) (drop (recordSize * n) s) ≡ recordAt n s
 part-is s n = ap (λ (k : ℕ). take k (drop (recordSize * n) s)) (add-sub-cancel-left (recordSize * n) recordSize)
+
+-- the answer about a record r, which the code has as f
+module _ {A : Type 0} (says : List ℕ → A) (absent : A) {f r : List ℕ} (e : f ≡ r) where
+  pub whole : length f ≡ recordSize → says f ≡ cond (eqb (length r) recordSize) (says r) absent
+  whole h = rw (← e, eq-eqb _ _ h)
+
+  pub not-whole : (length f ≡ recordSize → ⊥) → absent ≡ cond (eqb (length r) recordSize) (says r) absent
+  not-whole h = rw (← e, ne-eqb _ _ h)

@@ -1,11 +1,11 @@
--- Document 01, 'Frames': what a record of H'100, H'101 or H'102 says. Definitions only.
--- Each answer's cases: Heard with the document's values, from a whole record; Absent where no record counted, which is [].
+-- Document 01, 'Frames': what the H'100, H'101 and H'102 that count say. Definitions only.
+-- Each gives the document's identifier, and the values of each case: Heard, of the record that counts; Absent, where none does and the record is [].
 use mathlib.Core.Bool.{Bool, cond, _&&_}
 use mathlib.Core.List.{List}
 use Prim.Native.Nat.{ℕ, _/_, _%_}
 use lib.Dec.{eqb}
 use lib.ListN.{length}
-use Rattle.frames.specs.Records.{recordSize, dataByte, dataNumber}
+use Rattle.frames.specs.Records.{recordSize, dataByte, dataNumber, newestRecord}
 use Rattle.frames.specs.Times.{bytesOf}
 use Rattle.frames.specs.declared.heard.BatteryFrame.{BatteryFrame}
 use Rattle.frames.specs.declared.heard.BatteryFrame.the-variants as battery
@@ -19,26 +19,22 @@ use Rattle.frames.specs.declared.heard.VehicleSignals.{VehicleSignals}
 abbrev isWhole : List ℕ → Bool
 isWhole r = eqb (length r) recordSize
 
-abbrev pub batteryIdentifier : ℕ
-batteryIdentifier = 0x100
-
 -- "H'100: bytes 4–5 maximum battery voltage."
-unfoldable pub batteryOf : List ℕ → BatteryFrame
-batteryOf r = cond (isWhole r) (battery.Heard (dataNumber r 4)) battery.Absent
-
-abbrev pub timeIdentifier : ℕ
-timeIdentifier = 0x101
+unfoldable pub newestBattery : ℕ → List ℕ → BatteryFrame
+newestBattery count s =
+    let r = newestRecord 0x100 count s in
+    cond (isWhole r) (battery.Heard (dataNumber r 4)) battery.Absent
 
 -- "H'101: byte 1 charging time in tens of seconds; if it is H'FF, byte 2 gives minutes": both bytes as they came
-unfoldable pub timeOf : List ℕ → TimeFrame
-timeOf r = cond (isWhole r) (time.Heard (bytesOf (dataByte r 1) (dataByte r 2))) time.Absent
-
-abbrev pub statusIdentifier : ℕ
-statusIdentifier = 0x102
+unfoldable pub newestTime : ℕ → List ℕ → TimeFrame
+newestTime count s =
+    let r = newestRecord 0x101 count s in
+    cond (isWhole r) (time.Heard (bytesOf (dataByte r 1) (dataByte r 2))) time.Absent
 
 -- "H'102: bytes 1–2 target voltage; 3 requested amperes; 4 bits 0–4 faults; 5 status"
-unfoldable pub statusOf : List ℕ → StatusFrame
-statusOf r =
+unfoldable pub newestStatus : ℕ → List ℕ → StatusFrame
+newestStatus count s =
+    let r = newestRecord 0x102 count s in
     cond (isWhole r)
     (status.Heard (record { target = dataNumber r 1; request = dataByte r 3; faults = dataByte r 4; flags = dataByte r 5 }))
     status.Absent

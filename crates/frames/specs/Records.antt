@@ -30,5 +30,5 @@ lastOf identifier s zero = []
 lastOf identifier s (suc n) = cond (isFrame identifier (recordAt n s)) (recordAt n s) (lastOf identifier s n)
 
 -- of the records that the count takes in; there are no more than the list has whole ones
-unfoldable pub newest : ℕ → ℕ → List ℕ → List ℕ
-newest identifier count s = lastOf identifier s (min count (length s / recordSize))
+unfoldable pub newestRecord : ℕ → ℕ → List ℕ → List ℕ
+newestRecord identifier count s = lastOf identifier s (min count (length s / recordSize))

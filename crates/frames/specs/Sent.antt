@@ -16,7 +16,7 @@ abbrev pub flag : Bool → ℕ → ℕ
 flag set weight = cond set weight 0
 
 -- Byte 5, bits 0 to 5 as Table A.32 names them: charger status, charger malfunction, connector lock, battery incompatibility,
--- charging system malfunction, charging stop control. When each is set is the lead's to say.
+-- charging system malfunction, charging stop control.
 unfoldable pub flagsByte : ChargerFlags → ℕ
 flagsByte f =
     flag (f .charging) 1

@@ -29,7 +29,7 @@ inMinutes t = eqb (t .tens .0) 0xff
 unfoldable pub chargingTicks : ChargingTime → ℕ
 chargingTicks t = cond (inMinutes t) (ticksOfMinutes (t .minutes .0)) (ticksOfTens (t .tens .0))
 
--- "Remaining time, in phases 2–6, is the charging time, in phase 6 less the age after the tick, at least 0": `elapsed` is that age, or 0.
+-- Remaining time is the charging time less the ticks elapsed, "at least 0".
 -- "If byte 1 of the kept H'101 isn't H'FF, byte 6 has tens of seconds rounded down and byte 7 is 0; else byte 6 is H'FF and byte 7 has minutes rounded down."
 unfoldable pub remainingTime : ChargingTime → ℕ → ChargingTime
 remainingTime t elapsed =

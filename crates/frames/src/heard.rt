@@ -6,8 +6,7 @@ use super::times::Minutes;
 use super::times::TensOfSeconds;
 use little_endian::u16_at;
 ghost use mathlib.Core.Path.{_≡_};
-ghost use Rattle.frames.specs.Records.{newest};
-ghost use Rattle.frames.specs.Heard.{batteryIdentifier, timeIdentifier, statusIdentifier, batteryOf, timeOf, statusOf, signalsOf};
+ghost use Rattle.frames.specs.Heard.{newestBattery, newestTime, newestStatus, signalsOf};
 
 // H'100: maximum battery voltage, in volts.
 pub enum BatteryFrame {
@@ -49,19 +48,14 @@ impl BatteryFrame {
 
     const MAXIMUM_VOLTAGE: usize = 4;
 
-    fn of(frame: &[u8]) -> BatteryFrame
-        ensures { λ r. ⌜ r ≡ batteryOf (now (frame .entry)) ⌝ }
+    pub fn newest(records: &[u8], count: u8) -> BatteryFrame
+        ensures { λ r. ⌜ r ≡ newestBattery count (now (records .entry)) ⌝ }
     {
+        let frame = newest_record(records, count, BatteryFrame::IDENTIFIER);
         if frame.len() != FrameRecord::SIZE {
             return BatteryFrame::Absent;
         }
         BatteryFrame::Heard(u16_at(frame, FrameRecord::DATA + BatteryFrame::MAXIMUM_VOLTAGE))
-    }
-
-    pub fn newest(records: &[u8], count: u8) -> BatteryFrame
-        ensures { λ r. ⌜ r ≡ batteryOf (newest batteryIdentifier count (now (records .entry))) ⌝ }
-    {
-        BatteryFrame::of(newest_record(records, count, BatteryFrame::IDENTIFIER))
     }
 }
 
@@ -72,9 +66,10 @@ impl TimeFrame {
 
     const MINUTES: usize = 2;
 
-    fn of(frame: &[u8]) -> TimeFrame
-        ensures { λ r. ⌜ r ≡ timeOf (now (frame .entry)) ⌝ }
+    pub fn newest(records: &[u8], count: u8) -> TimeFrame
+        ensures { λ r. ⌜ r ≡ newestTime count (now (records .entry)) ⌝ }
     {
+        let frame = newest_record(records, count, TimeFrame::IDENTIFIER);
         if frame.len() != FrameRecord::SIZE {
             return TimeFrame::Absent;
         }
@@ -82,12 +77,6 @@ impl TimeFrame {
             tens: TensOfSeconds(frame[FrameRecord::DATA + TimeFrame::TENS_OF_SECONDS]),
             minutes: Minutes(frame[FrameRecord::DATA + TimeFrame::MINUTES]),
         })
-    }
-
-    pub fn newest(records: &[u8], count: u8) -> TimeFrame
-        ensures { λ r. ⌜ r ≡ timeOf (newest timeIdentifier count (now (records .entry))) ⌝ }
-    {
-        TimeFrame::of(newest_record(records, count, TimeFrame::IDENTIFIER))
     }
 }
 
@@ -102,9 +91,10 @@ impl StatusFrame {
 
     const STATUS: usize = 5;
 
-    fn of(frame: &[u8]) -> StatusFrame
-        ensures { λ r. ⌜ r ≡ statusOf (now (frame .entry)) ⌝ }
+    pub fn newest(records: &[u8], count: u8) -> StatusFrame
+        ensures { λ r. ⌜ r ≡ newestStatus count (now (records .entry)) ⌝ }
     {
+        let frame = newest_record(records, count, StatusFrame::IDENTIFIER);
         if frame.len() != FrameRecord::SIZE {
             return StatusFrame::Absent;
         }
@@ -114,12 +104,6 @@ impl StatusFrame {
             faults: frame[FrameRecord::DATA + StatusFrame::FAULTS],
             flags: frame[FrameRecord::DATA + StatusFrame::STATUS],
         })
-    }
-
-    pub fn newest(records: &[u8], count: u8) -> StatusFrame
-        ensures { λ r. ⌜ r ≡ statusOf (newest statusIdentifier count (now (records .entry))) ⌝ }
-    {
-        StatusFrame::of(newest_record(records, count, StatusFrame::IDENTIFIER))
     }
 }
 

@@ -2,7 +2,7 @@
 ghost use mathlib.Core.Path.{_≡_};
 ghost use Prim.Native.Nat.{min};
 ghost use lib.ListN.{length};
-ghost use Rattle.frames.specs.Records.{recordSize, isFrame, newest};
+ghost use Rattle.frames.specs.Records.{recordSize, isFrame, newestRecord};
 
 // A frame record's size and the places in it.
 pub struct FrameRecord;
@@ -35,7 +35,7 @@ fn lesser(a: usize, b: usize) -> usize
 
 // The newest record of an identifier among the first `count`, an empty part where there is none.
 pub(crate) fn newest_record<'a>(records: &'a [u8], count: u8, identifier: u16) -> &'a [u8]
-    ensures { λ r. ⌜ now r ≡ newest identifier count (now (records .entry)) ⌝ }
+    ensures { λ r. ⌜ now r ≡ newestRecord identifier count (now (records .entry)) ⌝ }
 {
     let mut n = lesser(count as usize, records.len() / FrameRecord::SIZE);
     while 0 < n {

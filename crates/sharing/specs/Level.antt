@@ -5,7 +5,7 @@ use Prim.Native.Nat.{ℕ, zero, suc, _+_, _/_, min}
 use lib.Dec.{leb}
 use lib.ListN.{getD}
 
--- a post has up to four leads
+-- as many as may want power at once
 abbrev pub places : ℕ
 places = 4
 

@@ -6,19 +6,19 @@ use Prim.Native.Nat.{_*_, _-_, _≤_}
 use native.Mathlib.Omega.{arith}
 use lib.ListN.{length}
 use denote.Ref.{now}
-use Rattle.frames.specs.Records.{recordSize, recordAt, isFrame, lastOf, newest}
+use Rattle.frames.specs.Records.{recordSize, recordAt, isFrame, lastOf, newestRecord}
 use Rattle.frames.proofs.Newest.{last-here, last-below, part-is}
 use Rattle.frames.proofs.records.newest_record.Statement.{statement}
 use Rattle.frames.proofs.records.newest_record.Tie as tie
 
 abbrev Inv-loop : tie.InvT-loop
-Inv-loop records count identifier n₀ n = (recordSize * n ≤ length records) × (lastOf identifier records n ≡ newest identifier count records)
+Inv-loop records count identifier n₀ n = (recordSize * n ≤ length records) × (lastOf identifier records n ≡ newestRecord identifier count records)
 
 abbrev μ-loop : tie.MeasureT-loop
 μ-loop records count identifier n₀ n = n
 
 loop-holds : tie.Need-loop-holds Inv-loop μ-loop
-unfolding newest
+unfolding newestRecord
 loop-holds c = (omega arith, ap (lastOf (c .before .before .args .identifier) (now (c .before .before .args .records))) (c .lesser .ensures))
 
 returns : tie.Need-returns Inv-loop μ-loop
