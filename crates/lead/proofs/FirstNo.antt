@@ -1,0 +1,21 @@
+-- The first no of a list of questions, from one place on. Assumes nothing.
+use mathlib.Core.Bool.{Bool, true, false}
+use mathlib.Core.List.{List, [], _∷_}
+use mathlib.Core.Path.{_≡_, refl}
+use Prim.Native.Nat.{ℕ, _+_, _≤_, _<_}
+use native.Mathlib.Numerals.{add-one}
+use lib.ListN.{length, getD, drop, drop-of-length-le}
+use lib.Seq.{drop-cons}
+use Rattle.lead.specs.Questions.{isNo, stopOf, firstNo}
+use Rattle.lead.specs.declared.questions.Question.{Question}
+use Rattle.lead.specs.declared.questions.Verdict.the-variants.{Pass}
+
+module _ (p : ℕ) (rows : List Question) (i : ℕ) where
+  pub first-here : (zero : Question) → i < length rows → isNo p (getD rows i zero) ≡ true → firstNo p (drop i rows) ≡ stopOf (getD rows i zero)
+  first-here zero h e = rw (drop-cons rows i zero h, e)
+
+  pub first-later : (zero : Question) → i < length rows → isNo p (getD rows i zero) ≡ false → firstNo p (drop (i + 1) rows) ≡ firstNo p (drop i rows)
+  first-later zero h e = rw (drop-cons rows i zero h, e, add-one i)
+
+  pub first-none : length rows ≤ i → firstNo p (drop i rows) ≡ Pass
+  first-none h = rw (drop-of-length-le rows h)

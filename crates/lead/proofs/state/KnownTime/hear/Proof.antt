@@ -1,0 +1,16 @@
+use Rattle.lead.specs.Hearing.{hearTime}
+use borrow.Author.Needs.{needs}
+use Rattle.lead.proofs.state.KnownTime.hear.Statement.{statement}
+use Rattle.lead.proofs.state.KnownTime.hear.Tie as tie
+
+returns : tie.Need-returns
+unfolding hearTime
+returns c = rw (c .before .frame .given .1)
+
+returns-2 : tie.Need-returns-2
+unfolding hearTime
+returns-2 c = rw (c .enum-told .given .1)
+
+pub hear-spec : {M : Type 1} → statement M
+hear-spec = tie.close
+    (tie.spec (search needs) (search needs) returns returns-2)

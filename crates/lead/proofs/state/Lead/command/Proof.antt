@@ -1,0 +1,12 @@
+use Rattle.lead.specs.Power.{wantedWatts, commanded}
+use borrow.Author.Needs.{needs}
+use Rattle.lead.proofs.state.Lead.command.Statement.{statement}
+use Rattle.lead.proofs.state.Lead.command.Tie as tie
+
+returns : tie.Need-returns
+unfolding wantedWatts commanded
+returns c = rw (c .carried .ensures, c .before .wanted .ensures)
+
+pub command-spec : {M : Type 1} → statement M
+command-spec = tie.close
+    (tie.spec (search needs) (search needs) returns)

@@ -1,0 +1,12 @@
+use Rattle.lead.specs.Moves.{mayMove}
+use borrow.Author.Needs.{needs}
+use Rattle.lead.proofs.state.Lead.may_move.Statement.{statement}
+use Rattle.lead.proofs.state.Lead.may_move.Tie as tie
+
+returns : tie.Need-returns
+unfolding mayMove
+returns c = rw (c .holds-at .ensures, c .before .moves .ensures)
+
+pub may-move-spec : {M : Type 1} → statement M
+may-move-spec = tie.close
+    (tie.spec (search needs) (search needs) returns)

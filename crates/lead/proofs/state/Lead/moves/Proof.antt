@@ -1,0 +1,13 @@
+use mathlib.Core.Path.{refl}
+use Rattle.lead.specs.Moves.{moves}
+use borrow.Author.Needs.{needs}
+use Rattle.lead.proofs.state.Lead.moves.Statement.{statement}
+use Rattle.lead.proofs.state.Lead.moves.Tie as tie
+
+returns : tie.Need-returns
+unfolding moves
+returns c = refl
+
+pub moves-spec : {M : Type 1} → statement M
+moves-spec = tie.close
+    (tie.spec (search needs) (search needs) (search needs) (search needs) returns)

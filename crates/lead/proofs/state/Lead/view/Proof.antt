@@ -1,0 +1,16 @@
+use Rattle.lead.specs.Questions.{viewOf}
+use borrow.Author.Needs.{needs}
+use Rattle.lead.proofs.state.Lead.view.Statement.{statement}
+use Rattle.lead.proofs.state.Lead.view.Tie as tie
+
+returns : tie.Need-returns
+unfolding viewOf
+returns c =
+    let k = c .before .before .before in
+    rw (c .ticks .ensures, c .before .at-phase .ensures, c .before .before .is-insulated .ensures, k .is-given .ensures, k .before .signals .ensures, k .before .before .from-reading .ensures, k .before .before .before .threshold-now .ensures)
+
+pub view-spec : {M : Type 1} → statement M
+view-spec =
+    tie.close
+    (tie.spec (search needs) (search needs) (search needs) (search needs) (search needs) (search needs) (search needs) (search needs)
+      returns)

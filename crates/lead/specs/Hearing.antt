@@ -1,0 +1,77 @@
+-- Document 01, 'Phases': what a lead remembers, and how a tick's frames change it. Definitions only.
+use mathlib.Core.Bool.{Bool, true, false, cond, _&&_}
+use Prim.Native.Nat.{ℕ, _+_, min}
+use lib.Dec.{leb, eqb}
+use Rattle.frames.specs.Times.{bytesOf}
+use Rattle.frames.specs.declared.heard.BatteryFrame.{BatteryFrame}
+use Rattle.frames.specs.declared.heard.BatteryFrame.the-variants as battery
+use Rattle.frames.specs.declared.heard.TimeFrame.{TimeFrame}
+use Rattle.frames.specs.declared.heard.TimeFrame.the-variants as time
+use Rattle.frames.specs.declared.heard.StatusFrame.{StatusFrame}
+use Rattle.frames.specs.declared.heard.StatusFrame.the-variants as status
+use Rattle.lead.specs.Names.{idle, handshake, noReason}
+use Rattle.lead.specs.declared.state.Lead.{Lead}
+use Rattle.lead.specs.declared.state.Car.{Car}
+use Rattle.lead.specs.declared.state.KnownBattery.{KnownBattery}
+use Rattle.lead.specs.declared.state.KnownTime.{KnownTime}
+use Rattle.lead.specs.declared.state.KnownStatus.{KnownStatus}
+use Rattle.lead.specs.declared.state.Input.{Input}
+
+-- a phase in a bracket of the document
+abbrev pub within : ℕ → ℕ → ℕ → Bool
+within first last p = leb first p && leb p last
+
+-- a lead in a phase that remembers nothing
+abbrev pub blank : ℕ → Lead
+blank p =
+    record {
+      stage = record { phase = p; reason = noReason; age = 0 };
+      command = 0;
+      threshold = 0;
+      car =
+          record {
+            battery = record { seen = false; maximum = 0 };
+            time = record { seen = false; value = bytesOf 0 0 };
+            status = record { seen = false; value = record { target = 0; request = 0; faults = 0; flags = 0 } };
+            silence = 0;
+          };
+    }
+
+-- Setup: "phase 0, other lead bytes 0"
+abbrev pub fresh : Lead
+fresh = blank idle
+
+-- What a frame said remains until the next of its kind.
+unfoldable pub hearBattery : BatteryFrame → KnownBattery → KnownBattery
+hearBattery (battery.Heard volts) known = record { seen = true; maximum = volts }
+hearBattery battery.Absent known = known
+
+unfoldable pub hearTime : TimeFrame → KnownTime → KnownTime
+hearTime (time.Heard sent) known = record { seen = true; value = sent }
+hearTime time.Absent known = known
+
+unfoldable pub hearStatus : StatusFrame → KnownStatus → KnownStatus
+hearStatus (status.Heard sent) known = record { seen = true; value = sent }
+hearStatus status.Absent known = known
+
+-- "silence becomes 0 if an H'102 counted, else grows by 1 to 255 at most"
+unfoldable pub silenceAfter : StatusFrame → ℕ → ℕ
+silenceAfter (status.Heard sent) silence = 0
+silenceAfter status.Absent silence = min (silence + 1) 255
+
+-- "take frames (phases 1–8)", "H'100 and H'101 are ignored from then on": they are heard in phase 1 alone.
+-- "Silence is counted in phases 1–8 only."
+unfoldable pub hearCar : ℕ → Input → Car → Car
+hearCar p i car =
+    cond (within 1 8 p)
+    (record {
+      battery = cond (eqb p handshake) (hearBattery (i .battery) (car .battery)) (car .battery);
+      time = cond (eqb p handshake) (hearTime (i .time) (car .time)) (car .time);
+      status = hearStatus (i .status) (car .status);
+      silence = silenceAfter (i .status) (car .silence);
+    })
+    car
+
+unfoldable pub hear : Input → Lead → Lead
+hear i s =
+    record { stage = s .stage; command = s .command; threshold = s .threshold; car = hearCar (s .stage .phase) i (s .car) }

@@ -1,0 +1,5 @@
+pub mod Names
+pub mod Hearing
+pub mod Questions
+pub mod Moves
+pub mod Power

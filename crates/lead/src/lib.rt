@@ -1,0 +1,21 @@
+// One lead: its conversation with the car, tick by tick, and the amperes that it wants. By value: bytes stand in lead_records.
+// Rests on readings and frames, and knows nothing of other leads.
+mod hearing;
+mod moves;
+mod names;
+mod power;
+mod questions;
+mod state;
+mod tables;
+
+pub use names::Phase;
+pub use names::Reason;
+pub use state::Car;
+pub use state::Contacts;
+pub use state::Input;
+pub use state::KnownBattery;
+pub use state::KnownStatus;
+pub use state::KnownTime;
+pub use state::Lead;
+pub use state::Ratings;
+pub use state::Stage;

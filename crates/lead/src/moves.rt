@@ -1,0 +1,147 @@
+// Moves, and where a stop leads: a lead's tick but for its command.
+use super::names::Phase;
+use super::names::Reason;
+use super::questions::Verdict;
+use super::questions::View;
+use super::state::Input;
+use super::state::Lead;
+use super::state::Ratings;
+use super::state::Stage;
+use super::tables::at_phase;
+use super::tables::holds_at;
+use readings::STEPS_PER_UNIT;
+ghost use mathlib.Core.Path.{_≡_};
+ghost use mathlib.Core.Bool.{cond};
+ghost use Rattle.lead.specs.Moves.{moves, mayMove, nextPhase, reasonAfter, ageAfter, goOn, advance, decide};
+
+// Where each phase leads, 0 to 10: by its move, by an urgent stop, by another.
+const MOVE_TO: [u8; 11] = [1, 2, 3, 4, 5, 6, 6, 8, 9, 10, 0];
+
+const URGENT_TO: [u8; 11] = [0, 10, 9, 9, 9, 9, 9, 9, 9, 9, 10];
+
+const ORDINARY_TO: [u8; 11] = [0, 10, 8, 8, 8, 8, 7, 7, 8, 9, 10];
+
+// The age stops there.
+const MOST: u32 = 4294967295;
+
+impl Lead {
+    // What each phase's move wants, phases 0 to 10.
+    fn moves(self, view: View) -> [bool; 11]
+        ensures { λ r. ⌜ r ≡ moves view self ⌝ }
+    {
+        let contacts = view.contacts;
+        let meter = view.meter;
+        let signals = view.signals;
+        let car = self.car;
+        let age = self.stage.age;
+        let step = STEPS_PER_UNIT as u32;
+        [
+            contacts.start & contacts.plug & !contacts.emergency,
+            car.battery.seen
+                & car.time.seen
+                & car.status.seen
+                & contacts.permission
+                & signals.enabled,
+            contacts.lock,
+            view.tested,
+            meter.volts <= step * 10,
+            signals.closed,
+            false,
+            ((self.command == 0) & (meter.amperes <= step * 4)) | (30 <= age),
+            !signals.closed | (40 <= age),
+            meter.good & (meter.volts <= step * 10),
+            !contacts.plug,
+        ]
+    }
+
+    fn may_move(self, view: View) -> bool
+        ensures { λ r. ⌜ r ≡ mayMove view self ⌝ }
+    {
+        holds_at(self.moves(view), self.stage.phase)
+    }
+
+    // Goes on into a phase.
+    fn go_on(mut self, view: View, verdict: Verdict, phase: u8) -> Lead
+        ensures { λ r. ⌜ r ≡ goOn view verdict phase self ⌝ }
+    {
+        let before = self.stage;
+        let keeps = (before.phase == Phase::HANDSHAKE) & (phase == Phase::LOCKING);
+        let powered = (Phase::CHARGING <= phase) & (phase <= Phase::RAMP_DOWN);
+        self.threshold = volts_if(keeps, view.threshold, self.threshold);
+        self.command = amperes_if(powered, self.command);
+        let stage = Stage {
+            phase,
+            reason: reason_after(before.phase, before.reason, verdict),
+            age: age_after(before.phase, phase, before.age),
+        };
+        self.stage = stage;
+        self
+    }
+
+    // Of a lead that has heard the tick's frames.
+    fn advance(self, view: View, verdict: Verdict) -> Lead
+        ensures { λ r. ⌜ r ≡ advance view verdict self ⌝ }
+    {
+        let phase = next_phase(self.stage.phase, verdict, self.may_move(view));
+        if (self.stage.phase == Phase::IDLE) & (phase == Phase::HANDSHAKE) {
+            return Lead::blank(Phase::HANDSHAKE);
+        }
+        self.go_on(view, verdict, phase)
+    }
+
+    // A tick but for the command.
+    pub fn decide(self, ratings: Ratings, input: Input) -> Lead
+        ensures { λ r. ⌜ r ≡ decide ratings input self ⌝ }
+    {
+        let heard = self.hear(input);
+        let view = heard.view(ratings, input);
+        let verdict = heard.ask(view);
+        heard.advance(view, verdict)
+    }
+}
+
+// The phase after the tick.
+fn next_phase(phase: u8, verdict: Verdict, may: bool) -> u8
+    ensures { λ r. ⌜ r ≡ nextPhase phase verdict may ⌝ }
+{
+    match verdict {
+        Verdict::Pass => { if may { at_phase(MOVE_TO, phase) } else { phase } }
+        Verdict::Urgent(_) => at_phase(URGENT_TO, phase),
+        Verdict::Ordinary(_) => at_phase(ORDINARY_TO, phase),
+    }
+}
+
+// In phases 7 and 8 the reason that was recorded first remains.
+fn reason_after(phase: u8, reason: u8, verdict: Verdict) -> u8
+    ensures { λ r. ⌜ r ≡ reasonAfter phase reason verdict ⌝ }
+{
+    let recorded = (Phase::RAMP_DOWN <= phase) & (phase <= Phase::WELD_CHECK);
+    let number = verdict.number();
+    if recorded | (number == Reason::NONE) {
+        reason
+    } else {
+        number
+    }
+}
+
+// A move or a stop begins anew.
+fn age_after(before: u8, after: u8, age: u32) -> u32
+    ensures { λ r. ⌜ r ≡ ageAfter before after age ⌝ }
+{
+    if before == after {
+        return if age < MOST { age + 1 } else { MOST };
+    }
+    0
+}
+
+fn volts_if(chosen: bool, volts: u16, other: u16) -> u16
+    ensures { λ r. ⌜ r ≡ cond chosen volts other ⌝ }
+{
+    if chosen { volts } else { other }
+}
+
+fn amperes_if(chosen: bool, amperes: u8) -> u8
+    ensures { λ r. ⌜ r ≡ cond chosen amperes 0 ⌝ }
+{
+    if chosen { amperes } else { 0 }
+}

@@ -1,0 +1,84 @@
+// What a lead wants of the post's power, and the command that a level gives it.
+use super::names::Phase;
+use super::state::Lead;
+use super::state::Ratings;
+ghost use mathlib.Core.Path.{_≡_};
+ghost use Prim.Native.Nat.{_+_, _-_, _*_, _/_, min};
+ghost use Rattle.lead.specs.Power.{wanted, wantedWatts, commanded};
+
+// At most 2 A above the command.
+fn raised(command: u8, most: u8) -> u8
+    ensures { λ r. ⌜ r ≡ min most (command + 2) ⌝ }
+{
+    if (command as u16) + 2 < (most as u16) {
+        command + 2
+    } else {
+        most
+    }
+}
+
+fn lesser(a: u8, b: u8) -> u8
+    ensures { λ r. ⌜ r ≡ min a b ⌝ }
+{
+    if a < b { a } else { b }
+}
+
+// 10 A below the command, at least 0.
+fn lowered(command: u8) -> u8
+    ensures { λ r. ⌜ r ≡ command - 10 ⌝ }
+{
+    if command < 10 { 0 } else { command - 10 }
+}
+
+fn watts(amperes: u8, volts: u16) -> u32
+    ensures { λ r. ⌜ r ≡ amperes * volts ⌝ }
+{
+    (amperes as u32) * (volts as u32)
+}
+
+// Whole amperes that the smaller of want and level carries.
+fn carried(wanted: u8, volts: u16, level: u32) -> u8
+    ensures { λ r. ⌜ r ≡ min (wanted * volts) level / volts ⌝ }
+{
+    if volts == 0 {
+        return 0;
+    }
+    let want = watts(wanted, volts);
+    if want <= level {
+        return wanted;
+    }
+    (level / (volts as u32)) as u8
+}
+
+impl Lead {
+    fn wanted(self, ratings: Ratings) -> u8
+        ensures { λ r. ⌜ r ≡ wanted ratings self ⌝ }
+    {
+        let phase = self.stage.phase;
+        if phase == Phase::CHARGING {
+            return raised(
+                self.command,
+                lesser(self.car.status.value.request, ratings.amperes),
+            );
+        }
+        if phase == Phase::RAMP_DOWN {
+            return lowered(self.command);
+        }
+        0
+    }
+
+    // By the phase after the tick.
+    pub fn wanted_watts(self, ratings: Ratings) -> u32
+        ensures { λ r. ⌜ r ≡ wantedWatts ratings self ⌝ }
+    {
+        watts(self.wanted(ratings), self.threshold)
+    }
+
+    // At the level that the post has worked out from every lead's want.
+    pub fn command(mut self, ratings: Ratings, level: u32) -> Lead
+        ensures { λ r. ⌜ r ≡ commanded ratings level self ⌝ }
+    {
+        self.command = carried(self.wanted(ratings), self.threshold, level);
+        self
+    }
+}

@@ -1,0 +1,215 @@
+// The nineteen stop questions, and the first no.
+use super::names::Phase;
+use super::names::Reason;
+use super::state::Contacts;
+use super::state::Input;
+use super::state::Lead;
+use super::state::Ratings;
+use super::tables::at_phase;
+use frames::VehicleSignals;
+use readings::Judged;
+use readings::Reading;
+use readings::STEPS_PER_UNIT;
+use readings::is_insulated;
+ghost use mathlib.Core.Path.{_≡_};
+ghost use Prim.Native.Nat.{min};
+ghost use Rattle.lead.specs.Questions.{meterOf, isGiven, thresholdNow, viewOf, questions, isNo, stopOf, firstNo, ask, numberOf};
+
+// The figures of a good reading, in steps.
+pub(crate) struct Meter {
+    pub(crate) good: bool,
+    pub(crate) volts: u32,
+    pub(crate) amperes: u32,
+}
+
+// What the questions and the moves look at: contacts, meter, what H'102's bits say, rated amperes, the threshold voltage
+// (worked out in phase 1, kept in the later ones), whether an insulation resistance is given and high enough,
+// the ticks allowed in the phase, and the charging time in ticks.
+pub(crate) struct View {
+    pub(crate) contacts: Contacts,
+    pub(crate) meter: Meter,
+    pub(crate) signals: VehicleSignals,
+    pub(crate) rated: u8,
+    pub(crate) threshold: u16,
+    pub(crate) tested: bool,
+    pub(crate) insulated: bool,
+    pub(crate) limit: u32,
+    pub(crate) time: u32,
+}
+
+// No stop, or one with its reason.
+pub(crate) enum Verdict {
+    Pass,
+    Urgent(u8),
+    Ordinary(u8),
+}
+
+// The reason that a no gives and whether it is urgent, the first and the last phase in which it is asked, and whether
+// the answer is yes.
+struct Question(u8, bool, u8, u8, bool);
+
+const URGENT: bool = true;
+
+const ORDINARY: bool = false;
+
+impl Verdict {
+    // The stop reason, none for a pass.
+    pub(crate) fn number(self) -> u8
+        ensures { λ r. ⌜ r ≡ numberOf self ⌝ }
+    {
+        match self {
+            Verdict::Pass => Reason::NONE,
+            Verdict::Urgent(number) => number,
+            Verdict::Ordinary(number) => number,
+        }
+    }
+}
+
+impl Meter {
+    fn from_reading(reading: Judged) -> Meter
+        ensures { λ r. ⌜ r ≡ meterOf reading ⌝ }
+    {
+        match reading {
+            Judged::Good { volts, amperes } => Meter {
+                good: true,
+                volts: volts as u32,
+                amperes: amperes as u32,
+            },
+            Judged::Bad => Meter {
+                good: false,
+                volts: 0,
+                amperes: 0,
+            },
+        }
+    }
+}
+
+fn is_given(insulation: Reading) -> bool
+    ensures { λ r. ⌜ r ≡ isGiven insulation ⌝ }
+{
+    match insulation {
+        Reading::Value(_) => true,
+        Reading::Missing => false,
+    }
+}
+
+impl Question {
+    // The document's questions 11 to 29.
+    const COUNT: usize = 19;
+
+    fn is_no(self, phase: u8) -> bool
+        ensures { λ r. ⌜ r ≡ isNo phase self ⌝ }
+    {
+        (self.2 <= phase) & (phase <= self.3) & !self.4
+    }
+
+    // What a no makes of it.
+    fn stop(self) -> Verdict
+        ensures { λ r. ⌜ r ≡ stopOf self ⌝ }
+    {
+        if self.1 {
+            Verdict::Urgent(self.0)
+        } else {
+            Verdict::Ordinary(self.0)
+        }
+    }
+}
+
+fn first_no(phase: u8, rows: [Question; Question::COUNT]) -> Verdict
+    ensures { λ r. ⌜ r ≡ firstNo phase rows ⌝ }
+{
+    let mut i = 0usize;
+    while i < Question::COUNT {
+        let row = rows[i];
+        if row.is_no(phase) {
+            return row.stop();
+        }
+        i += 1;
+    }
+    Verdict::Pass
+}
+
+impl Lead {
+    fn threshold_now(self, ratings: Ratings) -> u16
+        ensures { λ r. ⌜ r ≡ thresholdNow ratings self ⌝ }
+    {
+        if self.stage.phase == Phase::HANDSHAKE {
+            return lesser(ratings.volts, self.car.battery.maximum);
+        }
+        self.threshold
+    }
+
+    pub(crate) fn view(self, ratings: Ratings, input: Input) -> View
+        ensures { λ r. ⌜ r ≡ viewOf ratings input self ⌝ }
+    {
+        let contacts = input.contacts;
+        let reading = input.reading;
+        let insulation = input.insulation;
+        let status = self.car.status.value;
+        let time = self.car.time.value;
+        let threshold = self.threshold_now(ratings);
+        View {
+            contacts,
+            meter: Meter::from_reading(reading),
+            signals: status.signals(),
+            rated: ratings.amperes,
+            threshold,
+            tested: is_given(insulation),
+            insulated: is_insulated(threshold, insulation),
+            limit: at_phase(Lead::TICKS_ALLOWED, self.stage.phase) as u32,
+            time: time.ticks().0,
+        }
+    }
+
+    // Question 28, by phase.
+    const TICKS_ALLOWED: [u8; 11] = [0, 100, 20, 150, 50, 100, 0, 0, 0, 0, 0];
+
+    // Of a lead that has heard the tick's frames.
+    fn questions(self, view: View) -> [Question; Question::COUNT]
+        ensures { λ r. ⌜ r ≡ questions view self ⌝ }
+    {
+        let contacts = view.contacts;
+        let meter = view.meter;
+        let signals = view.signals;
+        let age = self.stage.age;
+        let ceiling = (STEPS_PER_UNIT as u32) * (view.threshold as u32);
+        let most = (STEPS_PER_UNIT as u32) * ((view.rated as u32) + 5);
+        let maximum = self.car.battery.maximum;
+        let target = self.car.status.value.target;
+        let in_range = (50 <= maximum) & (50 <= target) & (target <= view.threshold);
+        let compatible = !(self.car.battery.seen & self.car.status.seen) | in_range;
+        [
+            Question(Reason::EMERGENCY_STOP, URGENT, 1, 8, !contacts.emergency),
+            Question(Reason::UNPLUGGED, URGENT, 1, 8, contacts.plug),
+            Question(Reason::GROUND_FAULT, URGENT, 1, 8, !contacts.leakage),
+            Question(Reason::PERMISSION_OPEN, URGENT, 2, 7, contacts.permission),
+            Question(Reason::BAD_READING, URGENT, 3, 7, meter.good),
+            Question(Reason::OVERVOLTAGE, URGENT, 5, 7, meter.volts <= ceiling),
+            Question(Reason::OVERCURRENT, URGENT, 5, 7, meter.amperes <= most),
+            Question(Reason::UNLOCKED, URGENT, 3, 7, contacts.lock),
+            Question(Reason::CAR_SILENT, ORDINARY, 2, 6, self.car.silence < 10),
+            Question(Reason::CAR_FAULT, ORDINARY, 1, 6, signals.clear),
+            Question(Reason::INCOMPATIBLE_VOLTAGE, ORDINARY, 1, 6, compatible),
+            Question(Reason::NOT_IN_PARK, ORDINARY, 1, 6, signals.parked),
+            Question(Reason::NOT_ENABLED, ORDINARY, 2, 6, signals.enabled),
+            Question(Reason::CAR_STOP, ORDINARY, 1, 6, !signals.stop),
+            Question(Reason::CONTACTOR_OPEN, ORDINARY, 6, 6, signals.closed),
+            Question(Reason::STOP_BUTTON, ORDINARY, 1, 6, !contacts.stop),
+            Question(Reason::LOW_INSULATION, ORDINARY, 3, 3, view.insulated),
+            Question(Reason::PHASE_TIMEOUT, ORDINARY, 1, 5, age < view.limit),
+            Question(Reason::CHARGING_TIME_OVER, ORDINARY, 6, 6, age < view.time),
+        ]
+    }
+
+    pub(crate) fn ask(self, view: View) -> Verdict
+        ensures { λ r. ⌜ r ≡ ask view self ⌝ }
+    {
+        first_no(self.stage.phase, self.questions(view))
+    }
+}
+
+fn lesser(a: u16, b: u16) -> u16
+    ensures { λ r. ⌜ r ≡ min a b ⌝ }
+{
+    if a < b { a } else { b }
+}

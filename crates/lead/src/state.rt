@@ -1,0 +1,128 @@
+// What a lead remembers, what setup fixed for it, and what it is given in a tick.
+use super::names::Phase;
+use super::names::Reason;
+use frames::BatteryFrame;
+use frames::ChargingTime;
+use frames::Minutes;
+use frames::StatusFrame;
+use frames::TensOfSeconds;
+use frames::TimeFrame;
+use frames::VehicleStatus;
+use readings::Judged;
+use readings::Reading;
+ghost use mathlib.Core.Path.{_≡_};
+ghost use Rattle.lead.specs.Hearing.{blank, fresh};
+
+// Rated volts and amperes, and the cable resistance as its float's bits.
+pub struct Ratings {
+    pub volts: u16,
+    pub amperes: u8,
+    pub resistance: u32,
+}
+
+// The threshold voltage is 0 until it is kept; command is in amperes.
+pub struct Lead {
+    pub stage: Stage,
+    pub command: u8,
+    pub threshold: u16,
+    pub car: Car,
+}
+
+// Where the conversation stands: the phase, the stop reason that is shown, and the earlier ticks in the phase.
+pub struct Stage {
+    pub phase: u8,
+    pub reason: u8,
+    pub age: u32,
+}
+
+// What the car's frames said, and for how many ticks no H'102 has come.
+pub struct Car {
+    pub battery: KnownBattery,
+    pub time: KnownTime,
+    pub status: KnownStatus,
+    pub silence: u8,
+}
+
+// The newest H'100, H'101 and H'102, and whether one was seen since the start. Maximum battery voltage in volts.
+pub struct KnownBattery {
+    pub seen: bool,
+    pub maximum: u16,
+}
+
+pub struct KnownTime {
+    pub seen: bool,
+    pub value: ChargingTime,
+}
+
+pub struct KnownStatus {
+    pub seen: bool,
+    pub value: VehicleStatus,
+}
+
+// Closed or pressed. `permission` is the charge permission, `leakage` the ground fault (document 01: leak trip).
+pub struct Contacts {
+    pub plug: bool,
+    pub permission: bool,
+    pub lock: bool,
+    pub emergency: bool,
+    pub stop: bool,
+    pub start: bool,
+    pub leakage: bool,
+}
+
+// A tick's input: contacts, the meter's volts and amperes judged, insulation resistance in ohms, and the frames that count.
+pub struct Input {
+    pub contacts: Contacts,
+    pub reading: Judged,
+    pub insulation: Reading,
+    pub battery: BatteryFrame,
+    pub time: TimeFrame,
+    pub status: StatusFrame,
+}
+
+impl Lead {
+    // A lead in a phase that remembers nothing.
+    pub(crate) fn blank(phase: u8) -> Lead
+        ensures { λ r. ⌜ r ≡ blank phase ⌝ }
+    {
+        Lead {
+            stage: Stage {
+                phase,
+                reason: Reason::NONE,
+                age: 0,
+            },
+            command: 0,
+            threshold: 0,
+            car: Car {
+                battery: KnownBattery {
+                    seen: false,
+                    maximum: 0,
+                },
+                time: KnownTime {
+                    seen: false,
+                    value: ChargingTime {
+                        tens: TensOfSeconds(0),
+                        minutes: Minutes(0),
+                    },
+                },
+                status: KnownStatus {
+                    seen: false,
+                    value: VehicleStatus {
+                        target: 0,
+                        request: 0,
+                        faults: 0,
+                        flags: 0,
+                    },
+                },
+                silence: 0,
+            },
+        }
+    }
+
+    // As setup leaves it.
+    pub fn fresh() -> Lead
+        ensures { λ r. ⌜ r ≡ fresh ⌝ }
+    {
+        Lead::blank(Phase::IDLE)
+    }
+}

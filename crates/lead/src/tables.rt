@@ -1,0 +1,18 @@
+// Tables by phase. Past their end they hold 0 and false.
+ghost use mathlib.Core.Path.{_≡_};
+ghost use mathlib.Core.Bool.{false};
+ghost use lib.ListN.{getD};
+
+pub(crate) fn at_phase(table: [u8; 11], phase: u8) -> u8
+    ensures { λ r. ⌜ r ≡ getD table phase 0 ⌝ }
+{
+    let at = phase as usize;
+    if at < 11 { table[at] } else { 0 }
+}
+
+pub(crate) fn holds_at(table: [bool; 11], phase: u8) -> bool
+    ensures { λ r. ⌜ r ≡ getD table phase false ⌝ }
+{
+    let at = phase as usize;
+    if at < 11 { table[at] } else { false }
+}
