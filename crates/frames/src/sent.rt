@@ -1,10 +1,11 @@
 // The frames that the post sends: H'108 and H'109, eight data bytes each.
 use super::times::ChargingTime;
+use little_endian::byte_of;
 use little_endian::high_byte;
 use little_endian::low_byte;
 ghost use mathlib.Core.Path.{_≡_};
-ghost use Prim.Native.Nat.{_≤_, min};
-ghost use Rattle.frames.specs.Sent.{flag, flagsByte, offerBytes, reportBytes};
+ghost use Prim.Native.Nat.{min};
+ghost use Rattle.frames.specs.Sent.{flagsByte, offerBytes, reportBytes};
 
 // H'108: rated volts, the amperes on offer, and the threshold voltage (0 before it is kept).
 pub struct Offer {
@@ -58,35 +59,21 @@ impl Offer {
     }
 }
 
-// A flag's part in its byte. The bound is stated because the sum of the flags needs it.
-fn flag_value(set: bool, weight: u8) -> u8
-    ensures { λ r. ⌜ (r ≡ flag set weight) × (r ≤ weight) ⌝ }
-{
-    if set { weight } else { 0 }
-}
-
 impl ChargerFlags {
-    const CHARGING: u8 = 1;
-
-    const MALFUNCTION: u8 = 2;
-
-    const LOCKED: u8 = 4;
-
-    const INCOMPATIBLE: u8 = 8;
-
-    const SYSTEM: u8 = 16;
-
-    const STOPPED: u8 = 32;
-
+    // Byte 5 of H'109, from bit 0 on.
     fn byte(self) -> u8
         ensures { λ r. ⌜ r ≡ flagsByte self ⌝ }
     {
-        flag_value(self.charging, ChargerFlags::CHARGING)
-            + flag_value(self.malfunction, ChargerFlags::MALFUNCTION)
-            + flag_value(self.locked, ChargerFlags::LOCKED)
-            + flag_value(self.incompatible, ChargerFlags::INCOMPATIBLE)
-            + flag_value(self.system, ChargerFlags::SYSTEM)
-            + flag_value(self.stopped, ChargerFlags::STOPPED)
+        byte_of([
+            self.charging,
+            self.malfunction,
+            self.locked,
+            self.incompatible,
+            self.system,
+            self.stopped,
+            false,
+            false,
+        ])
     }
 }
 

@@ -3,3 +3,4 @@ pub mod Hearing
 pub mod Questions
 pub mod Moves
 pub mod Power
+pub mod Good

@@ -1,5 +1,6 @@
 // One lead: its conversation with the car, tick by tick, and the amperes that it wants. By value: bytes stand in lead_records.
 // Rests on readings and frames, and knows nothing of other leads.
+mod good;
 mod hearing;
 mod moves;
 mod names;

@@ -16,3 +16,10 @@ lowByte x = x % 256
 
 abbrev pub highByte : ℕ → ℕ
 highByte x = x / 256
+
+-- the two halves of a number below 4,294,967,296
+abbrev pub lowHalf : ℕ → ℕ
+lowHalf x = x % 65536
+
+abbrev pub highHalf : ℕ → ℕ
+highHalf x = x / 65536

@@ -1,8 +1,10 @@
-// Numbers of two and four bytes. Document 01: "many-byte numbers are little-endian". Rests on nothing.
+// Numbers of two and four bytes, and flags in a byte. Document 01: "many-byte numbers are little-endian", "bits from 0 as
+// the lowest". Rests on nothing.
 ghost use mathlib.Core.Path.{_≡_};
 ghost use Prim.Native.Nat.{_+_, _≤_, _<_};
 ghost use lib.ListN.{length};
-ghost use Rattle.little_endian.specs.Numbers.{u16At, u32At, lowByte, highByte};
+ghost use Rattle.little_endian.specs.Numbers.{u16At, u32At, lowByte, highByte, lowHalf, highHalf};
+ghost use Rattle.little_endian.specs.Flags.{bitValue, byteOf};
 
 // A byte as a wider number. The bound is stated because the sums below need it.
 fn widened(byte: u8) -> u16
@@ -41,4 +43,37 @@ pub fn high_byte(x: u16) -> u8
     ensures { λ r. ⌜ r ≡ highByte x ⌝ }
 {
     (x / 256) as u8
+}
+
+pub fn low_half(x: u32) -> u16
+    ensures { λ r. ⌜ r ≡ lowHalf x ⌝ }
+{
+    (x % 65536) as u16
+}
+
+pub fn high_half(x: u32) -> u16
+    ensures { λ r. ⌜ r ≡ highHalf x ⌝ }
+{
+    (x / 65536) as u16
+}
+
+// The bound is stated because the sum below needs it.
+fn bit_value(set: bool) -> u8
+    ensures { λ r. ⌜ (r ≡ bitValue set) × (r ≤ 1) ⌝ }
+{
+    if set { 1 } else { 0 }
+}
+
+// The byte that has the given bits, from bit 0 on.
+pub fn byte_of(bits: [bool; 8]) -> u8
+    ensures { λ r. ⌜ r ≡ byteOf bits ⌝ }
+{
+    bit_value(bits[0])
+        + 2 * bit_value(bits[1])
+        + 4 * bit_value(bits[2])
+        + 8 * bit_value(bits[3])
+        + 16 * bit_value(bits[4])
+        + 32 * bit_value(bits[5])
+        + 64 * bit_value(bits[6])
+        + 128 * bit_value(bits[7])
 }

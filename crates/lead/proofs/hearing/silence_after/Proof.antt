@@ -19,4 +19,4 @@ returns-3 c = rw (c .before .enum-told2 .given .1) (full _ _ (c .if1 .left))
 pub silence-after-spec : {M : Type 1} → statement M
 silence-after-spec =
     tie.close
-    (tie.spec (search needs) (search needs) (search needs) returns returns-2 returns-3)
+    (tie.spec search needs search needs search needs returns returns-2 returns-3)

@@ -19,4 +19,4 @@ returns-3 c = rw (ne-eqb _ _ (c .if1 .left))
 
 pub age-after-spec : {M : Type 1} → statement M
 age-after-spec = tie.close
-    (tie.spec (search needs) returns returns-2 returns-3)
+    (tie.spec search needs returns returns-2 returns-3)

@@ -22,5 +22,4 @@ returns-4 c = rw (c .before .enum-told3 .given .1) (c .at-phase3 .ensures)
 pub next-phase-spec : {M : Type 1} → statement M
 next-phase-spec =
     tie.close
-    (tie.spec (search needs) (search needs) (search needs) (search needs) (search needs) (search needs) returns returns-2 returns-3
-      returns-4)
+    (tie.spec search needs search needs search needs search needs search needs search needs returns returns-2 returns-3 returns-4)

@@ -13,4 +13,4 @@ returns-2 c = rw (← c .before .number .ensures, c .if1 .left)
 
 pub reason-after-spec : {M : Type 1} → statement M
 reason-after-spec = tie.close
-    (tie.spec (search needs) returns returns-2)
+    (tie.spec search needs returns returns-2)

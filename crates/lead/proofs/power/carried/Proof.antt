@@ -28,4 +28,4 @@ returns-3 c =
 pub carried-spec : {M : Type 1} → statement M
 carried-spec =
     tie.close
-    (tie.spec returns (search needs) returns-2 (search needs) cast-result returns-3)
+    (tie.spec returns search needs returns-2 search needs cast-result returns-3)

@@ -9,4 +9,4 @@ mul-result c = record { fits = watts-fit _ _ (omega arith) (omega arith) }
 
 pub watts-spec : {M : Type 1} → statement M
 watts-spec = tie.close
-    (tie.spec mul-result (search needs))
+    (tie.spec mul-result search needs)

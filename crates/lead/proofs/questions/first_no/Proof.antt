@@ -46,5 +46,4 @@ returns-2 c =
 pub first-no-spec : {M : Type 1} → statement M
 first-no-spec =
     tie.close
-    (tie.spec Inv-loop μ-loop loop-holds (search needs) (search needs) (search needs) (search needs) returns add-i loop-less loop-again
-      returns-2)
+    (tie.spec Inv-loop μ-loop loop-holds search needs search needs search needs search needs returns add-i loop-less loop-again returns-2)

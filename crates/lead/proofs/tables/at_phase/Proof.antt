@@ -15,4 +15,4 @@ returns-2 c =
 
 pub at-phase-spec : {M : Type 1} → statement M
 at-phase-spec = tie.close
-    (tie.spec (search needs) (search needs) returns-2)
+    (tie.spec search needs search needs returns-2)

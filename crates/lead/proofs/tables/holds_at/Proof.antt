@@ -15,4 +15,4 @@ returns-2 c =
 
 pub holds-at-spec : {M : Type 1} → statement M
 holds-at-spec = tie.close
-    (tie.spec (search needs) (search needs) returns-2)
+    (tie.spec search needs search needs returns-2)

@@ -26,4 +26,4 @@ returns-3 c =
 pub hear-spec : {M : Type 1} → statement M
 hear-spec =
     tie.close
-    (tie.spec returns (search needs) (search needs) returns-2 (search needs) (search needs) returns-3)
+    (tie.spec returns search needs search needs returns-2 search needs search needs returns-3)

@@ -13,4 +13,4 @@ returns-2 c = rw (c .enum-told .given .1)
 
 pub hear-spec : {M : Type 1} → statement M
 hear-spec = tie.close
-    (tie.spec (search needs) (search needs) returns returns-2)
+    (tie.spec search needs search needs returns returns-2)

@@ -18,4 +18,4 @@ returns-2 c =
 pub advance-spec : {M : Type 1} → statement M
 advance-spec =
     tie.close
-    (tie.spec (search needs) (search needs) (search needs) returns (search needs) returns-2)
+    (tie.spec search needs search needs search needs returns search needs returns-2)

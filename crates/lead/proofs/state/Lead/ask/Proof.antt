@@ -9,4 +9,4 @@ returns c = rw (c .first-no .ensures, c .before .questions .ensures)
 
 pub ask-spec : {M : Type 1} → statement M
 ask-spec = tie.close
-    (tie.spec (search needs) (search needs) returns)
+    (tie.spec search needs search needs returns)

@@ -9,4 +9,4 @@ returns c = rw (c .carried .ensures, c .before .wanted .ensures)
 
 pub command-spec : {M : Type 1} → statement M
 command-spec = tie.close
-    (tie.spec (search needs) (search needs) returns)
+    (tie.spec search needs search needs returns)

@@ -12,4 +12,4 @@ returns c =
 pub decide-spec : {M : Type 1} → statement M
 decide-spec =
     tie.close
-    (tie.spec (search needs) (search needs) (search needs) (search needs) returns)
+    (tie.spec search needs search needs search needs search needs returns)

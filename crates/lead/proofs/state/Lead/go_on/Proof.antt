@@ -12,4 +12,4 @@ returns c =
 pub go-on-spec : {M : Type 1} → statement M
 go-on-spec =
     tie.close
-    (tie.spec (search needs) (search needs) (search needs) (search needs) returns)
+    (tie.spec search needs search needs search needs search needs returns)

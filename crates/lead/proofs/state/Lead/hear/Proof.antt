@@ -9,4 +9,4 @@ returns c = rw (c .hear .ensures)
 
 pub hear-spec : {M : Type 1} → statement M
 hear-spec = tie.close
-    (tie.spec (search needs) returns)
+    (tie.spec search needs returns)

@@ -9,4 +9,4 @@ returns c = rw (c .holds-at .ensures, c .before .moves .ensures)
 
 pub may-move-spec : {M : Type 1} → statement M
 may-move-spec = tie.close
-    (tie.spec (search needs) (search needs) returns)
+    (tie.spec search needs search needs returns)

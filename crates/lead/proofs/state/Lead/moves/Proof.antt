@@ -10,4 +10,4 @@ returns c = refl
 
 pub moves-spec : {M : Type 1} → statement M
 moves-spec = tie.close
-    (tie.spec (search needs) (search needs) (search needs) (search needs) returns)
+    (tie.spec search needs search needs search needs search needs returns)

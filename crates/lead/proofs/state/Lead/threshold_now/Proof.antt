@@ -11,4 +11,4 @@ returns-2 c = rw (ne-eqb _ _ (c .if1 .left))
 
 pub threshold-now-spec : {M : Type 1} → statement M
 threshold-now-spec = tie.close
-    (tie.spec (search needs) returns returns-2)
+    (tie.spec search needs returns returns-2)

@@ -12,5 +12,4 @@ returns c =
 pub view-spec : {M : Type 1} → statement M
 view-spec =
     tie.close
-    (tie.spec (search needs) (search needs) (search needs) (search needs) (search needs) (search needs) (search needs) (search needs)
-      returns)
+    (tie.spec search needs search needs search needs search needs search needs search needs search needs search needs returns)

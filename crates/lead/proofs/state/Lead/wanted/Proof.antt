@@ -19,4 +19,4 @@ returns-3 c = rw (ne-eqb _ _ (c .before .if1 .left), ne-eqb _ _ (c .if2 .left))
 pub wanted-spec : {M : Type 1} → statement M
 wanted-spec =
     tie.close
-    (tie.spec (search needs) (search needs) returns (search needs) returns-2 returns-3)
+    (tie.spec search needs search needs returns search needs returns-2 returns-3)

@@ -9,4 +9,4 @@ returns c = rw (c .watts .ensures, c .before .wanted .ensures)
 
 pub wanted-watts-spec : {M : Type 1} → statement M
 wanted-watts-spec = tie.close
-    (tie.spec (search needs) (search needs) returns)
+    (tie.spec search needs search needs returns)

@@ -1,0 +1,12 @@
+use mathlib.Core.Path.{refl}
+use Rattle.lead.specs.Good.{goodThreshold}
+use Rattle.lead.proofs.good.is_good_threshold.Statement.{statement}
+use Rattle.lead.proofs.good.is_good_threshold.Tie as tie
+
+returns : tie.Need-returns
+unfolding goodThreshold
+returns c = refl
+
+pub is-good-threshold-spec : {M : Type 1} → statement M
+is-good-threshold-spec = tie.close
+    (tie.spec returns)

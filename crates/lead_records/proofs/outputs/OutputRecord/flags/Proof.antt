@@ -1,0 +1,12 @@
+use mathlib.Core.Path.{refl}
+use Rattle.lead_records.specs.Outputs.{flagsOf}
+use Rattle.lead_records.proofs.outputs.OutputRecord.flags.Statement.{statement}
+use Rattle.lead_records.proofs.outputs.OutputRecord.flags.Tie as tie
+
+returns : tie.Need-returns
+unfolding flagsOf
+returns c = refl
+
+pub flags-spec : {M : Type 1} → statement M
+flags-spec = tie.close
+    (tie.spec returns)

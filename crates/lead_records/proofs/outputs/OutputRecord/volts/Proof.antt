@@ -1,0 +1,14 @@
+use borrow.Author.Needs.{needs}
+use Rattle.lead_records.proofs.outputs.OutputRecord.volts.Statement.{statement}
+use Rattle.lead_records.proofs.outputs.OutputRecord.volts.Tie as tie
+
+returns : tie.Need-returns
+returns c = rw (c .before .before .reading .given .1, c .whole-units .ensures)
+
+returns-2 : tie.Need-returns-2
+returns-2 c = rw (c .enum-told .given .1)
+
+pub volts-spec : {M : Type 1} → statement M
+volts-spec =
+    tie.close
+    (tie.spec (search needs) (search needs) (search needs) returns returns-2)

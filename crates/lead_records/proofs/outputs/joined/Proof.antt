@@ -1,0 +1,16 @@
+use mathlib.Core.Path.{_≡_}
+use lib.ListN.{length}
+use Rattle.lead_records.proofs.Joins.{joins}
+use borrow.Author.Needs.{needs}
+use Rattle.lead_records.proofs.outputs.joined.Statement.{statement}
+use Rattle.lead_records.proofs.outputs.joined.Tie as tie
+
+returns : tie.Need-returns
+returns c = joins (c .args .t1) (c .args .t2) (c .args .t3) (search needs) (search needs) (search needs)
+
+pub joined-spec : {M : Type 1} → statement M
+joined-spec =
+    tie.close
+    (tie.spec (search needs) (search needs) (search needs) (search needs) (search needs) (search needs) (search needs) (search needs)
+    (search needs) (search needs) (search needs) (search needs) (search needs) (search needs) (search needs) (search needs) (search needs)
+    (search needs) (search needs) (search needs) (search needs) (search needs) (search needs) (search needs) returns)

@@ -1,0 +1,13 @@
+use Rattle.lead_records.specs.States.{goodState}
+use borrow.Author.Needs.{needs}
+use Rattle.lead_records.proofs.states.LeadRecord.is_good.Statement.{statement}
+use Rattle.lead_records.proofs.states.LeadRecord.is_good.Tie as tie
+
+returns : tie.Need-returns
+unfolding goodState
+returns c = rw (c .is-good .ensures, c .before .is-zero-from .ensures, c .before .before .before .read .ensures)
+
+pub is-good-spec : {M : Type 1} → statement M
+is-good-spec =
+    tie.close
+    (tie.spec (search needs) (search needs) (search needs) (search needs) returns)

@@ -1,0 +1,13 @@
+use Rattle.lead_records.specs.States.{decode}
+use borrow.Author.Needs.{needs}
+use Rattle.lead_records.proofs.states.LeadRecord.read.Statement.{statement}
+use Rattle.lead_records.proofs.states.LeadRecord.read.Tie as tie
+
+returns : tie.Need-returns
+unfolding decode
+returns c = rw (c .read-car .ensures, c .before .u16-at .ensures, c .before .before .before .u32-at .ensures)
+
+pub read-spec : {M : Type 1} → statement M
+read-spec =
+    tie.close
+    (tie.spec (search needs) (search needs) (search needs) (search needs) (search needs) (search needs) returns)

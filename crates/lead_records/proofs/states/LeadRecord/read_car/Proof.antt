@@ -1,0 +1,16 @@
+use Rattle.lead_records.specs.States.{decode}
+use borrow.Author.Needs.{needs}
+use Rattle.lead_records.proofs.states.LeadRecord.read_car.Statement.{statement}
+use Rattle.lead_records.proofs.states.LeadRecord.read_car.Tie as tie
+
+returns : tie.Need-returns
+unfolding decode
+returns c =
+    let k = c .before .before .before .before in
+    rw (k .u16-at2 .ensures, k .before .before .before .u16-at .ensures)
+
+pub read-car-spec : {M : Type 1} → statement M
+read-car-spec =
+    tie.close
+    (tie.spec (search needs) (search needs) (search needs) (search needs) (search needs) (search needs) (search needs) (search needs)
+    (search needs) returns)

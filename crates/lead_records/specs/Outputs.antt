@@ -1,0 +1,90 @@
+-- Document 01, 'The post's two calls' and 'Frames': the 24 bytes that a lead shows, "All show the state after the tick". Definitions only.
+use mathlib.Core.Bool.{Bool, not, cond, _||_}
+use mathlib.Core.List.{List, [], _∷_, _++_}
+use Prim.Native.Nat.{ℕ}
+use lib.Dec.{eqb}
+use Rattle.little_endian.specs.Numbers.{lowByte, highByte}
+use Rattle.little_endian.specs.Flags.{byteOf}
+use Rattle.readings.specs.Readings.{wholeUnits}
+use Rattle.readings.specs.declared.Judged.{Judged}
+use Rattle.readings.specs.declared.Judged.the-variants.{Good, Bad}
+use Rattle.frames.specs.Times.{bytesOf, remainingTime}
+use Rattle.frames.specs.Sent.{offerBytes, reportBytes}
+use Rattle.frames.specs.declared.times.ChargingTime.{ChargingTime}
+use Rattle.frames.specs.declared.sent.ChargerFlags.{ChargerFlags}
+use Rattle.frames.specs.declared.sent.Offer.{Offer}
+use Rattle.frames.specs.declared.sent.Report.{Report}
+use Rattle.lead.specs.Names.{insulationTest, charging, groundFault, badReading, overvoltage, overcurrent, unlocked, carSilent, incompatibleVoltage, lowInsulation, phaseTimeout}
+use Rattle.lead.specs.Hearing.{within}
+use Rattle.lead.specs.declared.state.Lead.{Lead}
+use Rattle.lead.specs.declared.state.Ratings.{Ratings}
+
+-- "Output, 24 a lead"
+abbrev pub outputSize : ℕ
+outputSize = 24
+
+-- "3 bits d1 (phases 1–8), d2 (5–8), lock (2–9), frames to be sent (1–9)"
+unfoldable pub relays : ℕ → ℕ
+relays p = byteOf (within 1 8 p ∷ within 5 8 p ∷ within 2 9 p ∷ within 1 9 p ∷ [])
+
+-- "4–5 test volts, the threshold in phase 3, else 0"
+unfoldable pub testVolts : Lead → ℕ
+testVolts s = cond (eqb (s .stage .phase) insulationTest) (s .threshold) 0
+
+-- what H'108 offers
+abbrev pub offerOf : Ratings → Lead → Offer
+offerOf c s = record { volts = c .volts; amperes = c .amperes; threshold = s .threshold }
+
+-- "Flags: 0 set in phases 6, 7; 1 for reasons 13, 15–18, 27; 2 lock contact closed; 3 for reason 21; 4 for reasons 19, 28; 5 set unless phase 6."
+unfoldable pub flagsOf : Bool → ℕ → ℕ → ChargerFlags
+flagsOf lock p reason =
+    record {
+      charging = within 6 7 p;
+      malfunction = eqb reason groundFault || within badReading unlocked reason || eqb reason lowInsulation;
+      locked = lock;
+      incompatible = eqb reason incompatibleVoltage;
+      system = eqb reason carSilent || eqb reason phaseTimeout;
+      stopped = not (eqb p charging);
+    }
+
+-- "Remaining time, in phases 2–6, is the charging time, in phase 6 less the age after the tick … In other phases both are 0."
+unfoldable pub remainingOf : Lead → ChargingTime
+remainingOf s =
+    cond (within 2 6 (s .stage .phase))
+    (remainingTime (s .car .time .value) (cond (eqb (s .stage .phase) charging) (s .stage .age) 0))
+    (bytesOf 0 0)
+
+-- "Without a good reading 1–3 are 0."
+abbrev pub shownVolts : Judged → ℕ
+shownVolts (Good volts amperes) = wholeUnits volts
+shownVolts Bad = 0
+
+abbrev pub shownAmperes : Judged → ℕ
+shownAmperes (Good volts amperes) = wholeUnits amperes
+shownAmperes Bad = 0
+
+-- what H'109 reports
+unfoldable pub reportOf : Bool → Judged → Lead → Report
+reportOf lock reading s =
+    record {
+      volts = shownVolts reading;
+      amperes = shownAmperes reading;
+      flags = flagsOf lock (s .stage .phase) (s .stage .reason);
+      remaining = remainingOf s;
+    }
+
+-- "both zero outside 1–9"
+abbrev pub whileSending : ℕ → List ℕ → List ℕ
+whileSending p frame = cond (within 1 9 p) frame (0 ∷ 0 ∷ 0 ∷ 0 ∷ 0 ∷ 0 ∷ 0 ∷ 0 ∷ [])
+
+-- "0 phase; 1 reason; 2 command; 3 bits …; 4–5 test volts …; 6–7 zero"
+unfoldable pub shownBytes : Lead → List ℕ
+shownBytes s =
+    s .stage .phase ∷ s .stage .reason ∷ s .command ∷ relays (s .stage .phase) ∷ lowByte (testVolts s) ∷ highByte (testVolts s) ∷ 0 ∷ 0 ∷ []
+
+-- "H'108; H'109"
+unfoldable pub outputOf : Ratings → Bool → Judged → Lead → List ℕ
+outputOf c lock reading s =
+    shownBytes s
+    ++ whileSending (s .stage .phase) (offerBytes (offerOf c s))
+    ++ whileSending (s .stage .phase) (reportBytes (reportOf lock reading s))

@@ -1,0 +1,79 @@
+-- Document 01, 'The post's two calls': the 32 bytes of a lead's state. Definitions only.
+use mathlib.Core.Bool.{Bool, true, _&&_}
+use mathlib.Core.List.{List, [], _∷_, _++_}
+use Prim.Native.Nat.{ℕ}
+use lib.Dec.{leb, eqb}
+use lib.ListN.{getD, drop}
+use Rattle.little_endian.specs.Numbers.{u16At, u32At, lowByte, highByte, lowHalf, highHalf}
+use Rattle.little_endian.specs.Flags.{bitAt, byteOf}
+use Rattle.frames.specs.Times.{bytesOf}
+use Rattle.lead.specs.Good.{goodLead}
+use Rattle.lead.specs.declared.state.Lead.{Lead}
+use Rattle.lead.specs.declared.state.Car.{Car}
+use Rattle.lead.specs.declared.state.Ratings.{Ratings}
+
+-- "then 32 a lead"
+abbrev pub stateSize : ℕ
+stateSize = 32
+
+-- bytes from here on are spare
+abbrev pub spareFrom : ℕ
+spareFrom = 20
+
+abbrev pub byteAt : List ℕ → ℕ → ℕ
+byteAt b place = getD b place 0
+
+-- "0 phase; 1 reason, 0 for none; 2 command; 3 request; 4, 5 bytes 4, 5 of H'102; 6 silence; 7 seen (bits 0–2 for H'100–H'102);
+-- 8–9 threshold; 10–11 maximum voltage; 12–13 target; 14, 15 bytes 1, 2 of H'101; 16–19 age"
+unfoldable pub decode : List ℕ → Lead
+decode b =
+    record {
+      stage = record { phase = byteAt b 0; reason = byteAt b 1; age = u32At b 16 };
+      command = byteAt b 2;
+      threshold = u16At b 8;
+      car =
+          record {
+            battery = record { seen = bitAt 0 (byteAt b 7); maximum = u16At b 10 };
+            time = record { seen = bitAt 1 (byteAt b 7); value = bytesOf (byteAt b 14) (byteAt b 15) };
+            status =
+                record {
+                  seen = bitAt 2 (byteAt b 7);
+                  value = record { target = u16At b 12; request = byteAt b 3; faults = byteAt b 4; flags = byteAt b 5 };
+                };
+            silence = byteAt b 6;
+          };
+    }
+
+abbrev pub u16Bytes : ℕ → List ℕ
+u16Bytes x = lowByte x ∷ highByte x ∷ []
+
+abbrev pub u32Bytes : ℕ → List ℕ
+u32Bytes x = u16Bytes (lowHalf x) ++ u16Bytes (highHalf x)
+
+-- "rest 0"
+abbrev pub spareBytes : List ℕ
+spareBytes = 0 ∷ 0 ∷ 0 ∷ 0 ∷ 0 ∷ 0 ∷ 0 ∷ 0 ∷ 0 ∷ 0 ∷ 0 ∷ 0 ∷ []
+
+abbrev pub seenByte : Car → ℕ
+seenByte car = byteOf (car .battery .seen ∷ car .time .seen ∷ car .status .seen ∷ [])
+
+-- the same places, written
+unfoldable pub encode : Lead → List ℕ
+encode s =
+    (s .stage .phase ∷ s .stage .reason ∷ s .command ∷ [])
+    ++ (s .car .status .value .request ∷ s .car .status .value .faults ∷ s .car .status .value .flags ∷ s .car .silence ∷ [])
+    ++ (seenByte (s .car) ∷ [])
+    ++ u16Bytes (s .threshold)
+    ++ u16Bytes (s .car .battery .maximum)
+    ++ u16Bytes (s .car .status .value .target)
+    ++ (s .car .time .value .tens .0 ∷ s .car .time .value .minutes .0 ∷ [])
+    ++ u32Bytes (s .stage .age)
+    ++ spareBytes
+
+abbrev pub allZero : List ℕ → Bool
+allZero [] = true
+allZero (byte ∷ bytes) = eqb byte 0 && allZero bytes
+
+-- a lead's part of refusal 6: "seen 0–7", "spare bytes 0", and what is asked of the lead itself
+unfoldable pub goodState : Ratings → List ℕ → Bool
+goodState c b = leb (byteAt b 7) 7 && allZero (drop spareFrom b) && goodLead c (decode b)
