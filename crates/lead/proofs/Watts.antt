@@ -1,7 +1,7 @@
 -- Amperes times volts, and back. Assumes nothing.
 use mathlib.Core.Path.{_≡_, sym}
-use Prim.Native.Nat.{ℕ, _+_, _*_, _/_, _≤_, _<_, min}
-use native.Mathlib.Nat.{mul-le-mul, mul-comm, div-le-of-le-mul, mul-div-cancel, min-eq-left, min-eq-right}
+use Prim.Native.Nat.{ℕ, _*_, _/_, _≤_, _<_, min}
+use native.Mathlib.Nat.{mul-le-mul, mul-comm, div-le-of-le-mul, mul-div-cancel, min-eq-left}
 use native.Mathlib.Omega.{arith}
 
 pub watts-fit : (amperes volts : ℕ) → amperes ≤ 255 → volts ≤ 65535 → amperes * volts < 4294967296

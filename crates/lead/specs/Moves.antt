@@ -1,5 +1,5 @@
 -- Document 01, 'Phases', and where a stop leads: a lead's tick but for its command. Definitions only.
-use mathlib.Core.Bool.{Bool, true, false, not, cond, _&&_, _||_}
+use mathlib.Core.Bool.{Bool, false, not, cond, _&&_, _||_}
 use mathlib.Core.List.{List, [], _∷_}
 use Prim.Native.Nat.{ℕ, _+_, min}
 use lib.Dec.{leb, eqb}

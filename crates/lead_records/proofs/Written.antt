@@ -1,5 +1,5 @@
 -- The 32 bytes of a lead, once each of their numbers is known. Assumes nothing.
-use mathlib.Core.List.{[], _∷_}
+use mathlib.Core.List.{_∷_}
 use mathlib.Core.Path.{_≡_}
 use Prim.Native.Nat.{ℕ}
 use Rattle.little_endian.specs.Numbers.{lowByte, highByte, lowHalf, highHalf}

@@ -14,7 +14,7 @@ use Rattle.frames.specs.declared.times.ChargingTime.{ChargingTime}
 use Rattle.frames.specs.declared.sent.ChargerFlags.{ChargerFlags}
 use Rattle.frames.specs.declared.sent.Offer.{Offer}
 use Rattle.frames.specs.declared.sent.Report.{Report}
-use Rattle.lead.specs.Names.{insulationTest, charging, groundFault, badReading, overvoltage, overcurrent, unlocked, carSilent, incompatibleVoltage, lowInsulation, phaseTimeout}
+use Rattle.lead.specs.Names.{insulationTest, charging, groundFault, badReading, unlocked, carSilent, incompatibleVoltage, lowInsulation, phaseTimeout}
 use Rattle.lead.specs.Hearing.{within}
 use Rattle.lead.specs.declared.state.Lead.{Lead}
 use Rattle.lead.specs.declared.state.Ratings.{Ratings}

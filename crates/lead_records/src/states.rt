@@ -19,7 +19,7 @@ use little_endian::u16_at;
 use little_endian::u32_at;
 ghost use mathlib.Core.Path.{_≡_};
 ghost use lib.ListN.{length, drop};
-ghost use Rattle.lead_records.specs.States.{stateSize, spareFrom, decode, seenByte, encode, allZero, goodState};
+ghost use Rattle.lead_records.specs.States.{stateSize, decode, seenByte, encode, allZero, goodState};
 
 // The state's size and the places in it.
 pub struct LeadRecord;

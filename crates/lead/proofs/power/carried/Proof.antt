@@ -1,6 +1,6 @@
 use native.Mathlib.Nat.{div-zero}
 use native.Mathlib.Omega.{arith}
-use Prim.Native.Nat.{_<_, _≤_, _*_, _/_}
+use Prim.Native.Nat.{_≤_, _/_}
 use Rattle.lead.proofs.Watts.{met, unmet, unmet-most}
 use borrow.Author.Needs.{needs}
 use Rattle.lead.proofs.power.carried.Statement.{statement}

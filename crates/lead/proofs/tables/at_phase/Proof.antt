@@ -1,5 +1,4 @@
 use mathlib.Core.Path.{_≡_, sym}
-use mathlib.Core.Bool.{false}
 use Prim.Native.Nat.{_≤_}
 use native.Mathlib.Omega.{arith}
 use lib.ListN.{length, List·getD-eq-default}

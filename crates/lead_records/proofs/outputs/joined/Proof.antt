@@ -1,5 +1,3 @@
-use mathlib.Core.Path.{_≡_}
-use lib.ListN.{length}
 use Rattle.lead_records.proofs.Joins.{joins}
 use borrow.Author.Needs.{needs}
 use Rattle.lead_records.proofs.outputs.joined.Statement.{statement}

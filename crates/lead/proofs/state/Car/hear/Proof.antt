@@ -1,6 +1,4 @@
 use borrow.Author.Tests.{not-true, not-false, ne-eqb}
-use Prim.Native.Nat.{_≤_}
-use lib.Dec.{eqb}
 use Rattle.lead.specs.Hearing.{within, hearCar}
 use borrow.Author.Needs.{needs}
 use Rattle.lead.proofs.state.Car.hear.Statement.{statement}

@@ -5,6 +5,9 @@ use borrow.Author.Needs.{needs}
 use Rattle.lead_records.proofs.inputs.InputRecord.read.Statement.{statement}
 use Rattle.lead_records.proofs.inputs.InputRecord.read.Tie as tie
 
+judge-requires : tie.Need-judge-requires
+judge-requires c κs = search needs
+
 returns : tie.Need-returns
 unfolding inputOf
 returns c =
@@ -16,6 +19,4 @@ returns c =
 pub read-spec : {M : Type 1} → statement M
 read-spec =
     tie.close
-    (tie.spec (search needs) (search needs) (search needs) (search needs) (search needs) (search needs) (search needs) (search needs)
-    (search needs) (search needs) (search needs) (search needs) (search needs) (search needs) (search needs) (search needs) (search needs)
-    (search needs) (search needs) (search needs) (search needs) (search needs) (search needs) returns)
+    (tie.spec (search needs) (search needs) (search needs) (search needs) (search needs) (search needs) (search needs) (search needs) (search needs) (search needs) (search needs) (search needs) (search needs) (search needs) (search needs) judge-requires (search needs) (search needs) (search needs) (search needs) (search needs) (search needs) (search needs) returns)

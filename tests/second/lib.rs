@@ -1,0 +1,25 @@
+//! The post's lead controller and power divider, written a second time.
+//!
+//! It describes document 01 in plain code, in the order of the document, and
+//! gives the expected answers for tests. Each layer knows only those above it
+//! in this list:
+//!
+//! - `readings`: what the meter board gives, and the whole numbers made of it
+//! - `frames`: what the car sends and what the post sends
+//! - `lead`: one cable with its connector
+//! - `sharing`: the level up to which every want is met
+//! - `post`: the two calls, setup and tick
+//! - `bench`: the language of the bench program
+//!
+//! `inputs` puts lead inputs together by name, for tests and test rows.
+
+pub mod bench;
+pub mod frames;
+pub mod inputs;
+pub mod lead;
+pub mod post;
+pub mod readings;
+pub mod sharing;
+
+#[cfg(test)]
+mod tests;
