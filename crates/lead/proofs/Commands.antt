@@ -1,0 +1,66 @@
+-- What a command leaves alone, and how large it is. Assumes nothing.
+use mathlib.Core.Bool.{Bool, true, false, not, cond}
+use mathlib.Core.Path.{_≡_, refl}
+use Prim.Native.Nat.{ℕ, zero, _+_, _-_, _*_, _/_, _≤_, min}
+use native.Mathlib.Omega.{arith}
+use native.Mathlib.Nat.{zero-div}
+use lib.Dec.{T, eqb}
+use borrow.Author.Tests.{ne-eqb}
+use Rattle.lead.specs.Hearing.{within}
+use Rattle.lead.specs.Power.{wanted, wantedWatts, commanded}
+use Rattle.lead.specs.declared.state.Lead.{Lead}
+use Rattle.lead.specs.declared.state.Ratings.{Ratings}
+use Rattle.lead.proofs.Bools.{within-of}
+use Rattle.lead.proofs.Watts.{carried-most}
+
+module _ (c : Ratings) (level : ℕ) (s : Lead) where
+  pub command-stage : commanded c level s .stage ≡ s .stage
+  unfolding commanded
+  command-stage = refl
+
+  pub command-threshold : commanded c level s .threshold ≡ s .threshold
+  unfolding commanded
+  command-threshold = refl
+
+  pub command-car : commanded c level s .car ≡ s .car
+  unfolding commanded
+  command-car = refl
+
+  pub command-is : commanded c level s .command ≡ min (wantedWatts c s) level / s .threshold
+  unfolding commanded
+  command-is = refl
+
+  pub command-most : commanded c level s .command ≤ wanted c s
+  unfolding commanded wantedWatts
+  command-most = carried-most (wanted c s) (s .threshold) level
+
+module _ (c : Ratings) (s : Lead) where
+  pub want-6 : s .stage .phase ≡ 6 → wanted c s ≡ min (min (s .car .status .value .request) (c .amperes)) (s .command + 2)
+  unfolding wanted
+  want-6 e = rw e
+
+  pub want-7 : s .stage .phase ≡ 7 → wanted c s ≡ s .command - 10
+  unfolding wanted
+  want-7 e = rw e
+
+  pub want-0 : (T (within 6 7 (s .stage .phase)) → ⊥) → wanted c s ≡ 0
+  unfolding wanted
+  want-0 n =
+      rw
+      (ne-eqb (s .stage .phase) 6 (λ e. n (within-of 6 7 (s .stage .phase) (omega arith) (omega arith))), ne-eqb (s .stage .phase) 7 (λ e. n (within-of 6 7 (s .stage .phase) (omega arith) (omega arith))))
+
+  -- a lead wants no more than its rating, or than what it had
+  pub want-rated : s .command ≤ c .amperes → wanted c s ≤ c .amperes
+  unfolding wanted
+  want-rated h = go (eqb (s .stage .phase) 6) (eqb (s .stage .phase) 7)
+    where
+      go :
+          (a b : Bool)
+          → cond a (min (min (s .car .status .value .request) (c .amperes)) (s .command + 2)) (cond b (s .command - 10) 0) ≤ c .amperes
+      go true b = omega arith
+      go false true = omega arith
+      go false false = omega arith
+
+-- outside 6 and 7 the command is 0
+pub command-0 : (c : Ratings) (level : ℕ) (s : Lead) → (T (within 6 7 (s .stage .phase)) → ⊥) → commanded c level s .command ≡ 0
+command-0 c level s n = let h : commanded c level s .command ≤ wanted c s = command-most c level s in omega (arith, want-0 c s n)
