@@ -3,3 +3,5 @@ pub mod Parts
 pub mod Zeros
 pub mod Written
 pub mod Joins
+pub mod RoundTrip
+pub mod Lengths

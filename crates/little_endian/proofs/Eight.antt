@@ -7,7 +7,8 @@ use lib.ListN.{length, getD, drop, drop-of-length-le}
 use lib.Seq.{drop-cons}
 
 module _ {A : Type 0} (d : A) (l : List A) where
-  from : (i : ℕ) {rest : List A} → i < length l → drop (suc i) l ≡ rest → drop i l ≡ getD l i d ∷ rest
+  -- a list from one place on, by its first element and the rest
+  pub from : (i : ℕ) {rest : List A} → i < length l → drop (suc i) l ≡ rest → drop i l ≡ getD l i d ∷ rest
   from i h e = drop-cons l i d h ∙ ap (λ r. getD l i d ∷ r) e
 
   pub eight :

@@ -1,0 +1,36 @@
+-- How long an output is. Assumes nothing.
+use mathlib.Core.Bool.{Bool, true, false, cond}
+use mathlib.Core.List.{List, [], _∷_, _++_}
+use mathlib.Core.Path.{_≡_, refl}
+use Prim.Native.Nat.{ℕ}
+use lib.ListN.{length, length-append}
+use Rattle.readings.specs.declared.Judged.{Judged}
+use Rattle.frames.specs.Sent.{offerBytes, reportBytes}
+use Rattle.lead.specs.Hearing.{within}
+use Rattle.lead.specs.declared.state.Lead.{Lead}
+use Rattle.lead.specs.declared.state.Ratings.{Ratings}
+use Rattle.lead_records.specs.Outputs.{outputSize, offerOf, reportOf, whileSending, shownBytes, outputOf}
+
+sent-length : (p : ℕ) (frame : List ℕ) → length frame ≡ 8 → length (whileSending p frame) ≡ 8
+sent-length p frame e = go (within 1 9 p)
+  where
+    go : (b : Bool) → length (cond b frame (0 ∷ 0 ∷ 0 ∷ 0 ∷ 0 ∷ 0 ∷ 0 ∷ 0 ∷ [])) ≡ 8
+    go true = e
+    go false = refl
+
+module _ (c : Ratings) (lock : Bool) (reading : Judged) (s : Lead) where
+  offer-length : length (offerBytes (offerOf c s)) ≡ 8
+  unfolding offerBytes
+  offer-length = refl
+
+  report-length : length (reportBytes (reportOf lock reading s)) ≡ 8
+  unfolding reportBytes
+  report-length = refl
+
+  pub output-length : length (outputOf c lock reading s) ≡ outputSize
+  unfolding outputOf shownBytes
+  output-length =
+      let offer = whileSending (s .stage .phase) (offerBytes (offerOf c s)) in
+      let report = whileSending (s .stage .phase) (reportBytes (reportOf lock reading s)) in
+      rw
+      (length-append (shownBytes s ++ offer) report, length-append (shownBytes s) offer, sent-length (s .stage .phase) (offerBytes (offerOf c s)) offer-length, sent-length (s .stage .phase) (reportBytes (reportOf lock reading s)) report-length)
