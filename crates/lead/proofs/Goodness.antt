@@ -22,7 +22,8 @@ use Rattle.lead.proofs.Bools.{and-l, and-r, both, or-cases, or-l, or-r,
 use Rattle.lead.proofs.Phases as phases
 use Rattle.lead.proofs.Phases.{isPass}
 use Rattle.lead.proofs.Answers.{OrdinaryYes, ordinary-yes, number-known}
-use Rattle.lead.proofs.Ticks.{verdict, may, phaseAfter, start, hear-stage, MoveMet, move-met, decide-phase, started, WentOn, not-started}
+use Rattle.lead.proofs.Hears.{hear-stage}
+use Rattle.lead.proofs.Ticks.{verdict, may, phaseAfter, start, MoveMet, move-met, decide-phase, started, WentOn, not-started}
 use Rattle.lead.proofs.Commands.{command-stage, command-threshold, command-most, command-0, want-rated}
 
 -- what the good-state check says of a lead

@@ -30,19 +30,6 @@ module _ (c : Ratings) (i : Input) (s : Lead) where
   abbrev pub start : Bool
   start = eqb (s .stage .phase) 0 && eqb phaseAfter 1
 
--- hearing leaves alone where the lead stands
-pub hear-stage : (i : Input) (s : Lead) → hear i s .stage ≡ s .stage
-unfolding hear
-hear-stage i s = refl
-
-pub hear-command : (i : Input) (s : Lead) → hear i s .command ≡ s .command
-unfolding hear
-hear-command i s = refl
-
-pub hear-threshold : (i : Input) (s : Lead) → hear i s .threshold ≡ s .threshold
-unfolding hear
-hear-threshold i s = refl
-
 -- What the move out of a phase wants, of a lead that has heard the tick's frames.
 pub record MoveMet (c : Ratings) (i : Input) (h : Lead) : Type 0 where
   pub from-0 : h .stage .phase ≡ 0 → T (i .contacts .start && i .contacts .plug && not (i .contacts .emergency))

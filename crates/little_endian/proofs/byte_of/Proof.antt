@@ -1,7 +1,8 @@
+-- `little_endian::byte_of` meets its contract. A sum of eight weights. Assumes nothing.
+use borrow.Author.Needs.{needs}
 use mathlib.Core.Path.{_≡_}
 use lib.ListN.{length}
 use Rattle.little_endian.proofs.Bits.{weights}
-use borrow.Author.Needs.{needs}
 use Rattle.little_endian.proofs.byte_of.Statement.{statement}
 use Rattle.little_endian.proofs.byte_of.Tie as tie
 

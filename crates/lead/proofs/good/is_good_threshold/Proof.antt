@@ -1,3 +1,4 @@
+-- `lead::good::is_good_threshold` meets its contract. The test is the rule. Assumes nothing.
 use mathlib.Core.Path.{refl}
 use Rattle.lead.specs.Good.{goodThreshold}
 use Rattle.lead.proofs.good.is_good_threshold.Statement.{statement}

@@ -1,7 +1,8 @@
-use Rattle.lead.specs.Moves.{ageAfter}
-use Rattle.lead.proofs.Counting.{counts, full}
+-- `lead::moves::age_after` meets its contract. A count that stops at its largest value. Assumes nothing.
 use borrow.Author.Needs.{needs}
 use borrow.Author.Tests.{eq-eqb, ne-eqb}
+use Rattle.lead.specs.Moves.{ageAfter}
+use Rattle.lead.proofs.Counting.{counts, full}
 use Rattle.lead.proofs.moves.age_after.Statement.{statement}
 use Rattle.lead.proofs.moves.age_after.Tie as tie
 
@@ -19,4 +20,4 @@ returns-3 c = rw (ne-eqb _ _ (c .if1 .left))
 
 pub age-after-spec : {M : Type 1} → statement M
 age-after-spec = tie.close
-    (tie.spec search needs returns returns-2 returns-3)
+    (tie.spec (search needs) returns returns-2 returns-3)

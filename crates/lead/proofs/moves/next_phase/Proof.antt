@@ -1,5 +1,6 @@
-use Rattle.lead.specs.Moves.{nextPhase}
+-- `lead::moves::next_phase` meets its contract. One table a verdict. Assumes nothing.
 use borrow.Author.Needs.{needs}
+use Rattle.lead.specs.Moves.{nextPhase}
 use Rattle.lead.proofs.moves.next_phase.Statement.{statement}
 use Rattle.lead.proofs.moves.next_phase.Tie as tie
 
@@ -22,4 +23,4 @@ returns-4 c = rw (c .before .enum-told3 .given .1) (c .at-phase3 .ensures)
 pub next-phase-spec : {M : Type 1} → statement M
 next-phase-spec =
     tie.close
-    (tie.spec search needs search needs search needs search needs search needs search needs returns returns-2 returns-3 returns-4)
+    (tie.spec (search needs) (search needs) (search needs) (search needs) (search needs) (search needs) returns returns-2 returns-3 returns-4)

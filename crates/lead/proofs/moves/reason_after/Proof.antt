@@ -1,5 +1,6 @@
-use Rattle.lead.specs.Moves.{reasonAfter}
+-- `lead::moves::reason_after` meets its contract. By the number of the verdict. Assumes nothing.
 use borrow.Author.Needs.{needs}
+use Rattle.lead.specs.Moves.{reasonAfter}
 use Rattle.lead.proofs.moves.reason_after.Statement.{statement}
 use Rattle.lead.proofs.moves.reason_after.Tie as tie
 
@@ -13,4 +14,4 @@ returns-2 c = rw (← c .before .number .ensures, c .if1 .left)
 
 pub reason-after-spec : {M : Type 1} → statement M
 reason-after-spec = tie.close
-    (tie.spec search needs returns returns-2)
+    (tie.spec (search needs) returns returns-2)

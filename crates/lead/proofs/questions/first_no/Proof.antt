@@ -1,8 +1,9 @@
+-- `lead::questions::first_no` meets its contract. The loop's invariant: the first no of the questions not yet passed is the first of all. Assumes nothing.
+use borrow.Author.Needs.{needs}
 use mathlib.Core.Path.{_≡_, refl, sym, _∙_}
 use Prim.Native.Nat.{_≤_, _-_}
 use native.Mathlib.Omega.{arith}
 use lib.ListN.{length, drop}
-use borrow.Author.Needs.{needs}
 use Rattle.lead.specs.Questions.{firstNo}
 use Rattle.lead.proofs.FirstNo.{first-here, first-later, first-none}
 use Rattle.lead.proofs.questions.first_no.Statement.{statement}
@@ -46,4 +47,4 @@ returns-2 c =
 pub first-no-spec : {M : Type 1} → statement M
 first-no-spec =
     tie.close
-    (tie.spec Inv-loop μ-loop loop-holds search needs search needs search needs search needs returns add-i loop-less loop-again returns-2)
+    (tie.spec Inv-loop μ-loop loop-holds (search needs) (search needs) (search needs) (search needs) returns add-i loop-less loop-again returns-2)

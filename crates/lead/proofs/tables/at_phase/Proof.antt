@@ -1,8 +1,9 @@
+-- `lead::tables::at_phase` meets its contract. Past its end a list gives the default. Assumes nothing.
+use borrow.Author.Needs.{needs}
 use mathlib.Core.Path.{_≡_, sym}
 use Prim.Native.Nat.{_≤_}
 use native.Mathlib.Omega.{arith}
 use lib.ListN.{length, List·getD-eq-default}
-use borrow.Author.Needs.{needs}
 use Rattle.lead.proofs.tables.at_phase.Statement.{statement}
 use Rattle.lead.proofs.tables.at_phase.Tie as tie
 
@@ -14,4 +15,4 @@ returns-2 c =
 
 pub at-phase-spec : {M : Type 1} → statement M
 at-phase-spec = tie.close
-    (tie.spec search needs search needs returns-2)
+    (tie.spec (search needs) (search needs) returns-2)

@@ -1,9 +1,10 @@
+-- `lead::tables::holds_at` meets its contract. Past its end a list gives the default. Assumes nothing.
+use borrow.Author.Needs.{needs}
 use mathlib.Core.Path.{_≡_, sym}
 use mathlib.Core.Bool.{false}
 use Prim.Native.Nat.{_≤_}
 use native.Mathlib.Omega.{arith}
 use lib.ListN.{length, List·getD-eq-default}
-use borrow.Author.Needs.{needs}
 use Rattle.lead.proofs.tables.holds_at.Statement.{statement}
 use Rattle.lead.proofs.tables.holds_at.Tie as tie
 
@@ -15,4 +16,4 @@ returns-2 c =
 
 pub holds-at-spec : {M : Type 1} → statement M
 holds-at-spec = tie.close
-    (tie.spec search needs search needs returns-2)
+    (tie.spec (search needs) (search needs) returns-2)

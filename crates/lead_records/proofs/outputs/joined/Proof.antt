@@ -1,5 +1,6 @@
-use Rattle.lead_records.proofs.Joins.{joins}
+-- `lead_records::outputs::joined` meets its contract. Three lists of eight, element by element. Assumes nothing.
 use borrow.Author.Needs.{needs}
+use Rattle.lead_records.proofs.Joins.{joins}
 use Rattle.lead_records.proofs.outputs.joined.Statement.{statement}
 use Rattle.lead_records.proofs.outputs.joined.Tie as tie
 

@@ -1,9 +1,10 @@
+-- `lead_records::states::is_zero_from` meets its contract. The loop's invariant: the bytes not yet passed are zero exactly where all are. Assumes nothing.
 use borrow.Author.Needs.{needs}
-use denote.Ref.{now}
 use mathlib.Core.Path.{_≡_, refl, sym, _∙_}
 use Prim.Native.Nat.{_-_}
 use native.Mathlib.Omega.{arith}
 use lib.ListN.{length, drop}
+use denote.Ref.{now}
 use Rattle.lead_records.specs.States.{allZero}
 use Rattle.lead_records.proofs.Zeros.{one-not-zero, one-zero, none-left}
 use Rattle.lead_records.proofs.states.is_zero_from.Statement.{statement}

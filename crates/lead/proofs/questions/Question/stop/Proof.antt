@@ -1,3 +1,4 @@
+-- `lead::questions::Question::stop` meets its contract. By the kind of the question. Assumes nothing.
 use Rattle.lead.proofs.questions.Question.stop.Statement.{statement}
 use Rattle.lead.proofs.questions.Question.stop.Tie as tie
 

@@ -1,6 +1,7 @@
+-- `lead::state::Car::hear` meets its contract. By the phase: deaf, past phase 1, in phase 1. Assumes nothing.
+use borrow.Author.Needs.{needs}
 use borrow.Author.Tests.{not-true, not-false, ne-eqb}
 use Rattle.lead.specs.Hearing.{within, hearCar}
-use borrow.Author.Needs.{needs}
 use Rattle.lead.proofs.state.Car.hear.Statement.{statement}
 use Rattle.lead.proofs.state.Car.hear.Tie as tie
 
@@ -24,4 +25,4 @@ returns-3 c =
 pub hear-spec : {M : Type 1} → statement M
 hear-spec =
     tie.close
-    (tie.spec returns search needs search needs returns-2 search needs search needs returns-3)
+    (tie.spec returns (search needs) (search needs) returns-2 (search needs) (search needs) returns-3)

@@ -1,5 +1,6 @@
-use Rattle.lead.specs.Hearing.{hearTime}
+-- `lead::state::KnownTime::hear` meets its contract. By the case of the frame. Assumes nothing.
 use borrow.Author.Needs.{needs}
+use Rattle.lead.specs.Hearing.{hearTime}
 use Rattle.lead.proofs.state.KnownTime.hear.Statement.{statement}
 use Rattle.lead.proofs.state.KnownTime.hear.Tie as tie
 
@@ -13,4 +14,4 @@ returns-2 c = rw (c .enum-told .given .1)
 
 pub hear-spec : {M : Type 1} → statement M
 hear-spec = tie.close
-    (tie.spec search needs search needs returns returns-2)
+    (tie.spec (search needs) (search needs) returns returns-2)

@@ -1,5 +1,6 @@
-use Rattle.lead.specs.Moves.{advance}
+-- `lead::state::Lead::advance` meets its contract. By whether the lead is started. Assumes nothing.
 use borrow.Author.Needs.{needs}
+use Rattle.lead.specs.Moves.{advance}
 use Rattle.lead.proofs.state.Lead.advance.Statement.{statement}
 use Rattle.lead.proofs.state.Lead.advance.Tie as tie
 
@@ -18,4 +19,4 @@ returns-2 c =
 pub advance-spec : {M : Type 1} → statement M
 advance-spec =
     tie.close
-    (tie.spec search needs search needs search needs returns search needs returns-2)
+    (tie.spec (search needs) (search needs) (search needs) returns (search needs) returns-2)

@@ -1,5 +1,6 @@
-use Rattle.lead.specs.Power.{wantedWatts, commanded}
+-- `lead::state::Lead::command` meets its contract. By what it calls. Assumes nothing.
 use borrow.Author.Needs.{needs}
+use Rattle.lead.specs.Power.{wantedWatts, commanded}
 use Rattle.lead.proofs.state.Lead.command.Statement.{statement}
 use Rattle.lead.proofs.state.Lead.command.Tie as tie
 
@@ -9,4 +10,4 @@ returns c = rw (c .carried .ensures, c .before .wanted .ensures)
 
 pub command-spec : {M : Type 1} → statement M
 command-spec = tie.close
-    (tie.spec search needs search needs returns)
+    (tie.spec (search needs) (search needs) returns)

@@ -1,3 +1,4 @@
+-- `lead::state::Lead::decide` meets its contract. One step after the other. Assumes nothing.
 use borrow.Author.Needs.{needs}
 use Rattle.lead.specs.Moves.{decide}
 use Rattle.lead.proofs.state.Lead.decide.Statement.{statement}
@@ -12,4 +13,4 @@ returns c =
 pub decide-spec : {M : Type 1} → statement M
 decide-spec =
     tie.close
-    (tie.spec search needs search needs search needs search needs returns)
+    (tie.spec (search needs) (search needs) (search needs) (search needs) returns)

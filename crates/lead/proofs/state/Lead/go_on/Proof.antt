@@ -1,5 +1,6 @@
-use Rattle.lead.specs.Moves.{goOn}
+-- `lead::state::Lead::go_on` meets its contract. By what it calls. Assumes nothing.
 use borrow.Author.Needs.{needs}
+use Rattle.lead.specs.Moves.{goOn}
 use Rattle.lead.proofs.state.Lead.go_on.Statement.{statement}
 use Rattle.lead.proofs.state.Lead.go_on.Tie as tie
 
@@ -12,4 +13,4 @@ returns c =
 pub go-on-spec : {M : Type 1} → statement M
 go-on-spec =
     tie.close
-    (tie.spec search needs search needs search needs search needs returns)
+    (tie.spec (search needs) (search needs) (search needs) (search needs) returns)

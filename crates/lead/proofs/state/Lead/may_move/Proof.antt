@@ -1,5 +1,6 @@
-use Rattle.lead.specs.Moves.{mayMove}
+-- `lead::state::Lead::may_move` meets its contract. By what it calls. Assumes nothing.
 use borrow.Author.Needs.{needs}
+use Rattle.lead.specs.Moves.{mayMove}
 use Rattle.lead.proofs.state.Lead.may_move.Statement.{statement}
 use Rattle.lead.proofs.state.Lead.may_move.Tie as tie
 
@@ -9,4 +10,4 @@ returns c = rw (c .holds-at .ensures, c .before .moves .ensures)
 
 pub may-move-spec : {M : Type 1} → statement M
 may-move-spec = tie.close
-    (tie.spec search needs search needs returns)
+    (tie.spec (search needs) (search needs) returns)

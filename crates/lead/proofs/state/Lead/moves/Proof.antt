@@ -1,6 +1,7 @@
+-- `lead::state::Lead::moves` meets its contract. The table is the rule. Assumes nothing.
+use borrow.Author.Needs.{needs}
 use mathlib.Core.Path.{refl}
 use Rattle.lead.specs.Moves.{moves}
-use borrow.Author.Needs.{needs}
 use Rattle.lead.proofs.state.Lead.moves.Statement.{statement}
 use Rattle.lead.proofs.state.Lead.moves.Tie as tie
 
@@ -10,4 +11,4 @@ returns c = refl
 
 pub moves-spec : {M : Type 1} → statement M
 moves-spec = tie.close
-    (tie.spec search needs search needs search needs search needs returns)
+    (tie.spec (search needs) (search needs) (search needs) (search needs) returns)

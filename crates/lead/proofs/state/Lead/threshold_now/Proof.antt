@@ -1,3 +1,4 @@
+-- `lead::state::Lead::threshold_now` meets its contract. By the phase. Assumes nothing.
 use borrow.Author.Needs.{needs}
 use borrow.Author.Tests.{ne-eqb}
 use Rattle.lead.proofs.state.Lead.threshold_now.Statement.{statement}
@@ -11,4 +12,4 @@ returns-2 c = rw (ne-eqb _ _ (c .if1 .left))
 
 pub threshold-now-spec : {M : Type 1} → statement M
 threshold-now-spec = tie.close
-    (tie.spec search needs returns returns-2)
+    (tie.spec (search needs) returns returns-2)

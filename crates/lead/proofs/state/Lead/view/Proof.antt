@@ -1,5 +1,6 @@
-use Rattle.lead.specs.Questions.{viewOf}
+-- `lead::state::Lead::view` meets its contract. By what it calls. Assumes nothing.
 use borrow.Author.Needs.{needs}
+use Rattle.lead.specs.Questions.{viewOf}
 use Rattle.lead.proofs.state.Lead.view.Statement.{statement}
 use Rattle.lead.proofs.state.Lead.view.Tie as tie
 
@@ -12,4 +13,4 @@ returns c =
 pub view-spec : {M : Type 1} → statement M
 view-spec =
     tie.close
-    (tie.spec search needs search needs search needs search needs search needs search needs search needs search needs returns)
+    (tie.spec (search needs) (search needs) (search needs) (search needs) (search needs) (search needs) (search needs) (search needs) returns)

@@ -1,6 +1,7 @@
-use Rattle.lead.specs.Power.{wanted}
+-- `lead::state::Lead::wanted` meets its contract. By the phase. Assumes nothing.
 use borrow.Author.Needs.{needs}
 use borrow.Author.Tests.{ne-eqb}
+use Rattle.lead.specs.Power.{wanted}
 use Rattle.lead.proofs.state.Lead.wanted.Statement.{statement}
 use Rattle.lead.proofs.state.Lead.wanted.Tie as tie
 
@@ -19,4 +20,4 @@ returns-3 c = rw (ne-eqb _ _ (c .before .if1 .left), ne-eqb _ _ (c .if2 .left))
 pub wanted-spec : {M : Type 1} → statement M
 wanted-spec =
     tie.close
-    (tie.spec search needs search needs returns search needs returns-2 returns-3)
+    (tie.spec (search needs) (search needs) returns (search needs) returns-2 returns-3)

@@ -1,5 +1,6 @@
-use Rattle.lead.specs.Power.{wantedWatts}
+-- `lead::state::Lead::wanted_watts` meets its contract. By what it calls. Assumes nothing.
 use borrow.Author.Needs.{needs}
+use Rattle.lead.specs.Power.{wantedWatts}
 use Rattle.lead.proofs.state.Lead.wanted_watts.Statement.{statement}
 use Rattle.lead.proofs.state.Lead.wanted_watts.Tie as tie
 
@@ -9,4 +10,4 @@ returns c = rw (c .watts .ensures, c .before .wanted .ensures)
 
 pub wanted-watts-spec : {M : Type 1} → statement M
 wanted-watts-spec = tie.close
-    (tie.spec search needs search needs returns)
+    (tie.spec (search needs) (search needs) returns)

@@ -1,6 +1,7 @@
+-- `lead_records::inputs::InputRecord::is_good` meets its contract. The test is the rule. Assumes nothing.
+use borrow.Author.Needs.{needs}
 use mathlib.Core.Path.{refl}
 use Rattle.lead_records.specs.Inputs.{goodInput}
-use borrow.Author.Needs.{needs}
 use Rattle.lead_records.proofs.inputs.InputRecord.is_good.Statement.{statement}
 use Rattle.lead_records.proofs.inputs.InputRecord.is_good.Tie as tie
 

@@ -1,7 +1,8 @@
+-- `lead_records::inputs::InputRecord::read` meets its contract. By what it calls; a number read in its part is that of the whole. Assumes nothing.
+use borrow.Author.Needs.{needs}
 use denote.Ref.{now}
 use Rattle.lead_records.specs.Inputs.{inputOf}
 use Rattle.lead_records.proofs.Parts.{u32-part}
-use borrow.Author.Needs.{needs}
 use Rattle.lead_records.proofs.inputs.InputRecord.read.Statement.{statement}
 use Rattle.lead_records.proofs.inputs.InputRecord.read.Tie as tie
 

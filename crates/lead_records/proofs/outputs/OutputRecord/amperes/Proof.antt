@@ -1,3 +1,4 @@
+-- `lead_records::outputs::OutputRecord::amperes` meets its contract. By the case of the reading. Assumes nothing.
 use borrow.Author.Needs.{needs}
 use Rattle.lead_records.proofs.outputs.OutputRecord.amperes.Statement.{statement}
 use Rattle.lead_records.proofs.outputs.OutputRecord.amperes.Tie as tie

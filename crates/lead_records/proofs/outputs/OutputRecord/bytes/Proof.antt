@@ -1,5 +1,6 @@
-use Rattle.lead_records.specs.Outputs.{outputOf}
+-- `lead_records::outputs::OutputRecord::bytes` meets its contract. By what it calls. Assumes nothing.
 use borrow.Author.Needs.{needs}
+use Rattle.lead_records.specs.Outputs.{outputOf}
 use Rattle.lead_records.proofs.outputs.OutputRecord.bytes.Statement.{statement}
 use Rattle.lead_records.proofs.outputs.OutputRecord.bytes.Tie as tie
 

@@ -1,3 +1,4 @@
+-- `lead_records::outputs::OutputRecord::flags` meets its contract. The tests are the rule. Assumes nothing.
 use mathlib.Core.Path.{refl}
 use Rattle.lead_records.specs.Outputs.{flagsOf}
 use Rattle.lead_records.proofs.outputs.OutputRecord.flags.Statement.{statement}

@@ -1,5 +1,6 @@
-use Rattle.lead_records.specs.Outputs.{relays}
+-- `lead_records::outputs::OutputRecord::relays` meets its contract. By what it calls. Assumes nothing.
 use borrow.Author.Needs.{needs}
+use Rattle.lead_records.specs.Outputs.{relays}
 use Rattle.lead_records.proofs.outputs.OutputRecord.relays.Statement.{statement}
 use Rattle.lead_records.proofs.outputs.OutputRecord.relays.Tie as tie
 

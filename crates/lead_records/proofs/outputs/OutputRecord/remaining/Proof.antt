@@ -1,6 +1,7 @@
+-- `lead_records::outputs::OutputRecord::remaining` meets its contract. By the phase. Assumes nothing.
+use borrow.Author.Needs.{needs}
 use borrow.Author.Tests.{ne-eqb}
 use Rattle.lead_records.specs.Outputs.{remainingOf}
-use borrow.Author.Needs.{needs}
 use Rattle.lead_records.proofs.outputs.OutputRecord.remaining.Statement.{statement}
 use Rattle.lead_records.proofs.outputs.OutputRecord.remaining.Tie as tie
 

@@ -1,5 +1,6 @@
-use Rattle.lead_records.specs.Outputs.{reportOf}
+-- `lead_records::outputs::OutputRecord::report` meets its contract. By what it calls. Assumes nothing.
 use borrow.Author.Needs.{needs}
+use Rattle.lead_records.specs.Outputs.{reportOf}
 use Rattle.lead_records.proofs.outputs.OutputRecord.report.Statement.{statement}
 use Rattle.lead_records.proofs.outputs.OutputRecord.report.Tie as tie
 

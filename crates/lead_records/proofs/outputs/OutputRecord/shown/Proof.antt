@@ -1,5 +1,6 @@
-use Rattle.lead_records.specs.Outputs.{shownBytes}
+-- `lead_records::outputs::OutputRecord::shown` meets its contract. By what it calls. Assumes nothing.
 use borrow.Author.Needs.{needs}
+use Rattle.lead_records.specs.Outputs.{shownBytes}
 use Rattle.lead_records.proofs.outputs.OutputRecord.shown.Statement.{statement}
 use Rattle.lead_records.proofs.outputs.OutputRecord.shown.Tie as tie
 

@@ -1,3 +1,4 @@
+-- `lead_records::outputs::OutputRecord::test_volts` meets its contract. By the phase. Assumes nothing.
 use borrow.Author.Tests.{ne-eqb}
 use Rattle.lead_records.specs.Outputs.{testVolts}
 use Rattle.lead_records.proofs.outputs.OutputRecord.test_volts.Statement.{statement}

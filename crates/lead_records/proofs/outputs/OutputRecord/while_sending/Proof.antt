@@ -1,3 +1,4 @@
+-- `lead_records::outputs::OutputRecord::while_sending` meets its contract. By the phase. Assumes nothing.
 use Rattle.lead_records.proofs.outputs.OutputRecord.while_sending.Statement.{statement}
 use Rattle.lead_records.proofs.outputs.OutputRecord.while_sending.Tie as tie
 

@@ -1,5 +1,6 @@
-use Rattle.lead_records.proofs.Written.{written}
+-- `lead_records::states::LeadRecord::bytes` meets its contract. By the numbers that are written. Assumes nothing.
 use borrow.Author.Needs.{needs}
+use Rattle.lead_records.proofs.Written.{written}
 use Rattle.lead_records.proofs.states.LeadRecord.bytes.Statement.{statement}
 use Rattle.lead_records.proofs.states.LeadRecord.bytes.Tie as tie
 

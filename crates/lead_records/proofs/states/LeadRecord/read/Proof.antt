@@ -1,5 +1,6 @@
-use Rattle.lead_records.specs.States.{decode}
+-- `lead_records::states::LeadRecord::read` meets its contract. By the numbers that are read. Assumes nothing.
 use borrow.Author.Needs.{needs}
+use Rattle.lead_records.specs.States.{decode}
 use Rattle.lead_records.proofs.states.LeadRecord.read.Statement.{statement}
 use Rattle.lead_records.proofs.states.LeadRecord.read.Tie as tie
 

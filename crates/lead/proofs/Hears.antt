@@ -1,0 +1,57 @@
+-- What hearing does to a lead: to its memory of the car by phase, and nothing to the rest. Assumes nothing.
+use mathlib.Core.Bool.{true}
+use mathlib.Core.Path.{_≡_, refl}
+use Prim.Native.Nat.{ℕ, _+_, min}
+use lib.Dec.{T}
+use Rattle.frames.specs.declared.heard.StatusFrame.the-variants.{Heard, Absent}
+use Rattle.frames.specs.declared.heard.VehicleStatus.{VehicleStatus}
+use Rattle.lead.specs.Hearing.{within, hearStatus, silenceAfter, hearCar, hear}
+use Rattle.lead.specs.declared.state.Lead.{Lead}
+use Rattle.lead.specs.declared.state.KnownStatus.{KnownStatus}
+use Rattle.lead.specs.declared.state.Input.{Input}
+use Rattle.lead.proofs.Bools.{is-true, is-false}
+
+module _ (i : Input) (s : Lead) where
+  pub hear-stage : hear i s .stage ≡ s .stage
+  unfolding hear
+  hear-stage = refl
+
+  pub hear-command : hear i s .command ≡ s .command
+  unfolding hear
+  hear-command = refl
+
+  pub hear-threshold : hear i s .threshold ≡ s .threshold
+  unfolding hear
+  hear-threshold = refl
+
+  -- in phases 1 to 8
+  module _ (listening : T (within 1 8 (s .stage .phase))) where
+    pub hear-status : hear i s .car .status ≡ hearStatus (i .status) (s .car .status)
+    unfolding hear hearCar
+    hear-status = rw (is-true (within 1 8 (s .stage .phase)) listening)
+
+    pub hear-silence : hear i s .car .silence ≡ silenceAfter (i .status) (s .car .silence)
+    unfolding hear hearCar
+    hear-silence = rw (is-true (within 1 8 (s .stage .phase)) listening)
+
+  -- outside 1 to 8 nothing is heard
+  pub hear-nothing : (T (within 1 8 (s .stage .phase)) → ⊥) → hear i s ≡ s
+  unfolding hear hearCar
+  hear-nothing n = rw (is-false (within 1 8 (s .stage .phase)) n)
+
+module _ (known : KnownStatus) (silence : ℕ) where
+  pub status-heard : (f : VehicleStatus) → hearStatus (Heard f) known ≡ record { seen = true; value = f }
+  unfolding hearStatus
+  status-heard f = refl
+
+  pub status-absent : hearStatus Absent known ≡ known
+  unfolding hearStatus
+  status-absent = refl
+
+  pub silence-heard : (f : VehicleStatus) → silenceAfter (Heard f) silence ≡ 0
+  unfolding silenceAfter
+  silence-heard f = refl
+
+  pub silence-absent : silenceAfter Absent silence ≡ min (silence + 1) 255
+  unfolding silenceAfter
+  silence-absent = refl
