@@ -1,8 +1,8 @@
-// Runs one lead for one tick on each row of standard input, and writes one answer line for each row. A row is four fields in
-// capital hex, parted by tabs and ended by a line feed: head (8 bytes), level (4), lead state (32) and lead input (104).
-// An answer is `?` (not such a row, or a cable resistance that setup refuses), `6` (state not good), `9` (input not good),
-// or `0`, the state after the tick and the output.
-use lead::Lead;
+// Runs one lead for one tick on each row of standard input, and writes an answer line for each.
+// A row is four fields in capital hex, parted by tabs and ended by a line feed: head (8 bytes), level (4), lead state (32),
+// lead input (104). An answer is `0`, a tab, the state after the tick, a tab and the output; or the refusal's one character.
+mod hex;
+
 use lead::Ratings;
 use lead_records::InputRecord;
 use lead_records::LeadRecord;
@@ -13,10 +13,14 @@ use little_endian::u16_at;
 use little_endian::u32_at;
 use readings::is_allowed_resistance;
 ghost use mathlib.Core.Path.{_≡_};
+ghost use mathlib.Core.Bool.{true};
 ghost use Prim.Native.Nat.{_+_, _*_, _≤_, _<_};
 ghost use lib.ListN.{length};
+ghost use Rattle.readings.specs.Readings.{allowedResistance};
+ghost use Rattle.lead_records.specs.States.{stateSize};
+ghost use Rattle.lead_records.specs.Inputs.{inputSize};
 
-// Places in a row's bytes: three of the head, and where the other fields begin.
+// Places in a row's bytes: in the head, and where each later field begins. Then their number.
 const AMPERES: usize = 1;
 
 const VOLTS: usize = 2;
@@ -29,78 +33,56 @@ const STATE: usize = 12;
 
 const INPUT: usize = 44;
 
-// How many bytes a row has, and how many characters: two for each byte, three tabs and a line feed.
 const BYTES: usize = 148;
 
-const ROW: usize = 300;
+// Where the text of each field ends: two digits a byte, and a tab for each field before. Then a row's length.
+const HEAD_END: usize = 2 * LEVEL;
 
-// Places in an answer line that has a state and an output, and its length.
+const LEVEL_END: usize = 2 * STATE + 1;
+
+const STATE_END: usize = 2 * INPUT + 2;
+
+const INPUT_END: usize = 2 * BYTES + 3;
+
+const ROW: usize = INPUT_END + 1;
+
+// What an answer begins with. A row whose cable resistance setup refuses is answered as none.
+const DONE: u8 = b'0';
+
+const STATE_NOT_GOOD: u8 = b'6';
+
+const INPUT_NOT_GOOD: u8 = b'9';
+
+const NOT_A_ROW: u8 = b'?';
+
+// Where the state and the output begin in the answer line of a tick that was done, and its length.
 const STATE_TEXT: usize = 2;
 
 const OUTPUT_TEXT: usize = 67;
 
 const LINE: usize = 116;
 
-fn is_digit(character: u8) -> bool {
-    ((b'0' <= character) & (character <= b'9')) | ((b'A' <= character) & (character <= b'F'))
-}
-
-// 0 for a character that is no digit.
-fn digit_value(character: u8) -> u8
-    ensures { λ r. ⌜ r < 16 ⌝ }
-{
-    match character {
-        b'0'..=b'9' => character - b'0',
-        b'A'..=b'F' => character - b'A' + 10,
-        _ => 0,
-    }
-}
-
-fn byte_of_digits(high: u8, low: u8) -> u8 {
-    16 * digit_value(high) + digit_value(low)
-}
-
-fn digit(value: u8) -> u8
-    requires { ⌜ value < 16 ⌝ }
-{
-    if value < 10 {
-        b'0' + value
-    } else {
-        b'A' + (value - 10)
-    }
-}
-
-fn high_digit(byte: u8) -> u8 {
-    digit(byte / 16)
-}
-
-fn low_digit(byte: u8) -> u8 {
-    digit(byte % 16)
-}
-
 // Whether the character may stand at that place of a row.
 fn is_in_place(character: u8, at: usize) -> bool {
-    if (at == 2 * LEVEL) | (at == 2 * STATE + 1) | (at == 2 * INPUT + 2) {
+    if (at == HEAD_END) | (at == LEVEL_END) | (at == STATE_END) {
         return character == b'\t';
     }
-    if at == ROW - 1 {
+    if at == INPUT_END {
         return character == b'\n';
     }
-    is_digit(character)
+    hex::is_digit(character)
 }
 
 fn is_row(row: &[u8; ROW]) -> bool {
-    let mut at = 0;
-    while at < ROW {
+    for at in 0..ROW {
         if !is_in_place(row[at], at) {
             return false;
         }
-        at += 1;
     }
     true
 }
 
-// Where a byte's two digits stand in a row.
+// Where a byte's two digits stand in a row: after two for each byte before it, and a tab for each field.
 fn place(byte: usize) -> usize
     requires { ⌜ byte < 148 ⌝ }
     ensures { λ r. ⌜ r + 1 < 300 ⌝ }
@@ -119,11 +101,9 @@ fn place(byte: usize) -> usize
 
 fn row_bytes(row: &[u8; ROW]) -> [u8; BYTES] {
     let mut bytes = [0u8; BYTES];
-    let mut i = 0;
-    while i < BYTES {
+    for i in 0..BYTES {
         let at = place(i);
-        bytes[i] = byte_of_digits(row[at], row[at + 1]);
-        i += 1;
+        bytes[i] = hex::byte(row[at], row[at + 1]);
     }
     bytes
 }
@@ -132,41 +112,42 @@ fn row_bytes(row: &[u8; ROW]) -> [u8; BYTES] {
 fn with_hex(mut line: [u8; LINE], at: usize, bytes: &[u8]) -> [u8; LINE]
     requires { ⌜ at + 2 * length (now bytes) ≤ 116 ⌝ }
 {
-    let mut i = 0;
-    while i < bytes.len() {
-        line[at + 2 * i] = high_digit(bytes[i]);
-        line[at + 2 * i + 1] = low_digit(bytes[i]);
-        i += 1;
+    for i in 0..bytes.len() {
+        line[at + 2 * i] = hex::high_digit(bytes[i]);
+        line[at + 2 * i + 1] = hex::low_digit(bytes[i]);
     }
     line
 }
 
-fn write_line(line: &[u8; LINE]) {
-    io::write_all(STDOUT_FILENO, line);
-}
-
 fn write_done(state: [u8; LeadRecord::SIZE], output: [u8; OutputRecord::SIZE]) {
-    let mut line = [b'\t'; LINE];
-    line[0] = b'0';
+    let mut line = [0u8; LINE];
+    line[0] = DONE;
+    line[STATE_TEXT - 1] = b'\t';
+    line[OUTPUT_TEXT - 1] = b'\t';
     line[LINE - 1] = b'\n';
-    let with_state = with_hex(line, STATE_TEXT, &state);
-    let whole = with_hex(with_state, OUTPUT_TEXT, &output);
-    write_line(&whole);
+    let line = with_hex(line, STATE_TEXT, &state);
+    let line = with_hex(line, OUTPUT_TEXT, &output);
+    io::write_all(STDOUT_FILENO, &line);
 }
 
-fn tick(bytes: &[u8], ratings: Ratings) {
-    let state = &bytes[STATE..INPUT];
-    let given = &bytes[INPUT..BYTES];
+fn write_refusal(character: u8) {
+    io::write_all(STDOUT_FILENO, &[character, b'\n']);
+}
+
+// Answers a row whose cable resistance setup takes.
+fn tick(ratings: Ratings, level: u32, state: &[u8], given: &[u8])
+    requires { ⌜ (length (now state) ≡ stateSize) × (length (now given) ≡ inputSize) ⌝ }
+    requires { ⌜ allowedResistance (ratings .resistance) ≡ true ⌝ }
+{
     if !LeadRecord::is_good(state, ratings) {
-        io::write_all(STDOUT_FILENO, b"6\n");
+        write_refusal(STATE_NOT_GOOD);
         return;
     }
     if !InputRecord::is_good(given) {
-        io::write_all(STDOUT_FILENO, b"9\n");
+        write_refusal(INPUT_NOT_GOOD);
         return;
     }
     let input = InputRecord::read(given, ratings.resistance);
-    let level = u32_at(bytes, LEVEL);
     let next = LeadRecord::read(state)
         .decide(ratings, input)
         .command(ratings, level);
@@ -177,4 +158,45 @@ fn tick(bytes: &[u8], ratings: Ratings) {
     );
 }
 
-fn main() {}
+// Answers a row, of which these are the bytes. The number of leads is not looked at.
+fn answer(row: &[u8; BYTES]) {
+    let bytes: &[u8] = row;
+    let ratings = Ratings {
+        volts: u16_at(bytes, VOLTS),
+        amperes: bytes[AMPERES],
+        resistance: u32_at(bytes, RESISTANCE),
+    };
+    if is_allowed_resistance(ratings.resistance) {
+        tick(
+            ratings,
+            u32_at(bytes, LEVEL),
+            &bytes[STATE..INPUT],
+            &bytes[INPUT..BYTES],
+        );
+    } else {
+        write_refusal(NOT_A_ROW);
+    }
+}
+
+// Reads a row and answers it. False at the end of the input.
+fn answer_next() -> bool {
+    let mut row = [0u8; ROW];
+    let count = io::read_full(STDIN_FILENO, &mut row);
+    if count == 0 {
+        return false;
+    }
+    if (count == ROW) & is_row(&row) {
+        answer(&row_bytes(&row));
+    } else {
+        write_refusal(NOT_A_ROW);
+    }
+    true
+}
+
+// A proved loop has to end, so it counts its turns down from a number that no run uses up.
+fn main() {
+    let mut turns = u64::MAX;
+    while turns > 0 && answer_next() {
+        turns -= 1;
+    }
+}

@@ -65,5 +65,5 @@ returns-4 c = is-least c
 pub least-steps-spec : {M : Type 1} → statement M
 least-steps-spec =
     tie.close
-    (tie.spec float-to-bits-bits returns returns-2 returns-3 search needs search needs search needs search needs sub-rounded-up search needs
+    (tie.spec float-to-bits-bits returns returns-2 returns-3 (search needs) (search needs) (search needs) (search needs) sub-rounded-up (search needs)
     cast-result returns-4)
