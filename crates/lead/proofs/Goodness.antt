@@ -2,14 +2,14 @@
 use mathlib.Core.Bool.{Bool, true, false, not, cond, _&&_, _||_}
 use mathlib.Core.Logic.{_⊎_, inl, inr}
 use mathlib.Core.Path.{_≡_, refl, sym, subst, ap, _∙_}
-use Prim.Native.Nat.{ℕ, _≤_, _<_, min}
+use Prim.Native.Nat.{ℕ, _≤_, min}
 use native.Mathlib.Omega.{arith}
 use lib.Dec.{T, leb, eqb, leb→le, le→leb, eqb→eq}
-use borrow.Author.Tests.{eq-eqb, ne-eqb}
+use borrow.Author.Tests.{eq-eqb}
 use Rattle.frames.specs.Heard.{signalsOf}
 use Rattle.lead.specs.Names.{handshake, locking, noReason}
 use Rattle.lead.specs.Hearing.{within, blank, fresh, hear}
-use Rattle.lead.specs.Questions.{thresholdNow, viewOf, once, numberOf}
+use Rattle.lead.specs.Questions.{thresholdNow, viewOf, numberOf}
 use Rattle.lead.specs.Moves.{reasonAfter, decide}
 use Rattle.lead.specs.Power.{wanted, commanded}
 use Rattle.lead.specs.Good.{goodThreshold, goodLead}
@@ -17,14 +17,13 @@ use Rattle.lead.specs.declared.state.Lead.{Lead}
 use Rattle.lead.specs.declared.state.Ratings.{Ratings}
 use Rattle.lead.specs.declared.state.Stage.{Stage}
 use Rattle.lead.specs.declared.state.Input.{Input}
-use Rattle.lead.specs.declared.questions.Verdict.{Verdict}
-use Rattle.lead.proofs.Bools.{and-l, and-r, both, or-cases, or-l, or-r, imp, mp, imp-of, is-false, holds, not-holds, within-of, within-lo, within-hi}
+use Rattle.lead.proofs.Bools.{and-l, and-r, both, or-cases, or-r, mp, imp-of, is-false, holds, not-holds, within-of, within-lo}
 use Rattle.lead.proofs.Phases as phases
 use Rattle.lead.proofs.Phases.{isPass}
 use Rattle.lead.proofs.Answers.{OrdinaryYes, ordinary-yes, number-known}
 use Rattle.lead.proofs.Hears.{hear-stage}
 use Rattle.lead.proofs.Ticks.{verdict, may, phaseAfter, start, MoveMet, move-met, decide-phase, started, WentOn, not-started}
-use Rattle.lead.proofs.Commands.{command-stage, command-threshold, command-most, command-0, want-rated}
+use Rattle.lead.proofs.Commands.{command-most, command-0, want-rated}
 
 -- what the good-state check says of a lead
 pub record Good (c : Ratings) (s : Lead) : Type 0 where

@@ -21,9 +21,6 @@ const URGENT_TO: [u8; 11] = [0, 10, 9, 9, 9, 9, 9, 9, 9, 9, 10];
 
 const ORDINARY_TO: [u8; 11] = [0, 10, 8, 8, 8, 8, 7, 7, 8, 9, 10];
 
-// The age stops there.
-const MOST: u32 = 4294967295;
-
 impl Lead {
     // What each phase's move wants, phases 0 to 10.
     fn moves(self, view: View) -> [bool; 11]
@@ -36,20 +33,31 @@ impl Lead {
         let age = self.stage.age;
         let step = STEPS_PER_UNIT as u32;
         [
+            // 0 to 1
             contacts.start & contacts.plug & !contacts.emergency,
+            // 1 to 2
             car.battery.seen
                 & car.time.seen
                 & car.status.seen
                 & contacts.permission
                 & signals.enabled,
+            // 2 to 3
             contacts.lock,
+            // 3 to 4
             view.tested,
+            // 4 to 5
             meter.volts <= step * 10,
+            // 5 to 6
             signals.closed,
+            // 6: none
             false,
+            // 7 to 8
             ((self.command == 0) & (meter.amperes <= step * 4)) | (30 <= age),
+            // 8 to 9
             !signals.closed | (40 <= age),
+            // 9 to 10
             meter.good & (meter.volts <= step * 10),
+            // 10 to 0
             !contacts.plug,
         ]
     }
@@ -129,7 +137,7 @@ fn age_after(before: u8, after: u8, age: u32) -> u32
     ensures { λ r. ⌜ r ≡ ageAfter before after age ⌝ }
 {
     if before == after {
-        return if age < MOST { age + 1 } else { MOST };
+        return if age < u32::MAX { age + 1 } else { u32::MAX };
     }
     0
 }

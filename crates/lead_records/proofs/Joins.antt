@@ -3,7 +3,7 @@ use mathlib.Core.List.{List, [], _∷_, _++_}
 use mathlib.Core.Path.{_≡_, ap, _∙_}
 use Prim.Native.Nat.{ℕ}
 use lib.ListN.{length, getD}
-use Rattle.little_endian.proofs.Eight.{eight}
+use Rattle.little_endian.proofs.Spelled.{eight}
 
 abbrev pub elements : List ℕ → List ℕ
 elements l =

@@ -2,7 +2,7 @@
 -- Assumes nothing.
 use mathlib.Core.Bool.{Bool, true, false}
 use mathlib.Core.List.{List, [], _∷_}
-use mathlib.Core.Path.{_≡_, refl, sym, ap, _∙_}
+use mathlib.Core.Path.{_≡_, refl, ap, _∙_}
 use Prim.Native.Nat.{ℕ, _+_, _-_, _*_, _≤_, _<_}
 use native.Mathlib.Omega.{arith}
 use lib.Dec.{T, leb, eqb, eqb→eq}
@@ -12,7 +12,7 @@ use Rattle.little_endian.specs.Flags.{bitAt, byteOf}
 use Rattle.lead.specs.Good.{goodLead}
 use Rattle.lead.specs.declared.state.Lead.{Lead}
 use Rattle.lead.specs.declared.state.Ratings.{Ratings}
-use Rattle.little_endian.proofs.Eight.{from}
+use Rattle.little_endian.proofs.Spelled.{spelled-is}
 use Rattle.lead.proofs.Bools.{and-l, and-r, upTo-at}
 use Rattle.lead_records.specs.States.{stateSize, spareFrom, byteAt, spareBytes, decode, encode, allZero, goodState}
 
@@ -70,35 +70,6 @@ high-half-back : (a b : ℕ) → a < 65536 → highHalf (a + 65536 * b) ≡ b
 high-half-back a b h = omega arith
 
 module _ (b : List ℕ) (long : length b ≡ stateSize) where
-  by-bytes :
-      (getD b 0 0 ∷ getD b 1 0 ∷ getD b 2 0 ∷ getD b 3 0 ∷ getD b 4 0 ∷ getD b 5 0 ∷ getD b 6 0 ∷ getD b 7 0 ∷ getD b 8 0 ∷ getD b 9 0
-      ∷ getD b 10 0 ∷ getD b 11 0 ∷ getD b 12 0 ∷ getD b 13 0 ∷ getD b 14 0 ∷ getD b 15 0 ∷ getD b 16 0 ∷ getD b 17 0 ∷ getD b 18 0
-      ∷ getD b 19 0 ∷ drop spareFrom b)
-      ≡ b
-  by-bytes =
-      sym
-      (from 0 b 0 (omega arith)
-      (from 0 b 1 (omega arith)
-      (from 0 b 2 (omega arith)
-      (from 0 b 3 (omega arith)
-      (from 0 b 4 (omega arith)
-      (from 0 b 5 (omega arith)
-      (from 0 b 6 (omega arith)
-      (from 0 b 7 (omega arith)
-      (from 0 b 8 (omega arith)
-      (from 0 b 9 (omega arith)
-      (from 0 b 10 (omega arith)
-      (from 0 b 11 (omega arith)
-      (from 0 b 12 (omega arith)
-      (from 0 b 13 (omega arith)
-      (from 0 b 14 (omega arith)
-      (from 0 b 15 (omega arith)
-      (from 0 b 16 (omega arith)
-      (from 0 b 17 (omega arith)
-      (from 0 b 18 (omega arith)
-      (from 0 b 19 (omega arith)
-      refl))))))))))))))))))))
-
   module _ (small : (n : ℕ) → getD b n 0 < 256) (seen : getD b 7 0 ≤ 7) (spare : T (allZero (drop spareFrom b))) where
     spare-zero : drop spareFrom b ≡ spareBytes
     spare-zero = let rest : length (drop spareFrom b) ≡ 12 = length-drop spareFrom b ∙ ap (λ n. n - spareFrom) long in rw rest at (zeros (drop spareFrom b) spare)
@@ -117,7 +88,7 @@ module _ (b : List ℕ) (long : length b ≡ stateSize) where
     encode-decode =
         rw
         (low-half-back (u16At b 16) (u16At b 18) half-small, high-half-back (u16At b 16) (u16At b 18) half-small, low 8, high 8, low 10, high 10, low 12, high 12, low 16, high 16, low 18, high 18, seen-again (getD b 7 0) seen, ← spare-zero)
-        by-bytes
+        (spelled-is 0 b spareFrom 0 (omega arith))
 
 -- what is written of a lead is good where the lead is
 seen-small : (a b c : Bool) → leb (byteOf (a ∷ b ∷ c ∷ [])) 7 ≡ true

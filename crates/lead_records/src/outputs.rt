@@ -29,16 +29,11 @@ impl OutputRecord {
     fn relays(phase: u8) -> u8
         ensures { λ r. ⌜ r ≡ relays phase ⌝ }
     {
-        byte_of([
-            (1 <= phase) & (phase <= 8),
-            (5 <= phase) & (phase <= 8),
-            (2 <= phase) & (phase <= 9),
-            (1 <= phase) & (phase <= 9),
-            false,
-            false,
-            false,
-            false,
-        ])
+        let d1 = (Phase::HANDSHAKE <= phase) & (phase <= Phase::WELD_CHECK);
+        let d2 = (Phase::CONTACTOR_CLOSING <= phase) & (phase <= Phase::WELD_CHECK);
+        let lock = (Phase::LOCKING <= phase) & (phase <= Phase::FINAL_DISCHARGE);
+        let frames = (Phase::HANDSHAKE <= phase) & (phase <= Phase::FINAL_DISCHARGE);
+        byte_of([d1, d2, lock, frames, false, false, false, false])
     }
 
     fn test_volts(lead: Lead) -> u16

@@ -6,7 +6,7 @@ use Prim.Native.Nat.{ℕ, _+_, _*_}
 use native.Mathlib.Omega.{arith}
 use lib.ListN.{length, getD}
 use Rattle.little_endian.specs.Flags.{bitValue, byteOf}
-use Rattle.little_endian.proofs.Eight.{eight}
+use Rattle.little_endian.proofs.Spelled.{eight}
 
 nested :
     (a b c d e f g h : ℕ)

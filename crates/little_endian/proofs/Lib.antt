@@ -1,3 +1,3 @@
--- Laws: a list of eight, and a byte of eight bits.
-pub mod Eight
+-- Laws: a list by its elements, and a byte of eight bits.
+pub mod Spelled
 pub mod Bits
