@@ -1,5 +1,5 @@
 -- Tests as facts. Assumes nothing.
-use mathlib.Core.Bool.{Bool, true, false, not, _&&_, _||_}
+use mathlib.Core.Bool.{Bool, true, false, not, cond, _&&_, _||_}
 use mathlib.Core.Logic.{_⊎_, inl, inr}
 use mathlib.Core.Path.{_≡_, refl, subst, sym}
 use Prim.Native.Nat.{ℕ, zero, suc, _≤_, _<_}
@@ -58,6 +58,14 @@ holds b e = subst T (sym e) tt
 pub not-holds : (b : Bool) → (T b → ⊥) → T (not b)
 not-holds true n = n tt
 not-holds false n = tt
+
+-- the case of a choice that is made
+module _ {A : Type 0} (b : Bool) (x y : A) where
+  pub when-true : b ≡ true → x ≡ cond b x y
+  when-true e = rw e
+
+  pub when-false : b ≡ false → y ≡ cond b x y
+  when-false e = rw e
 
 module _ (first last p : ℕ) where
   pub within-of : first ≤ p → p ≤ last → T (within first last p)

@@ -1,16 +1,25 @@
 -- `lead::moves::reason_after` meets its contract. By the number of the verdict. Assumes nothing.
 use borrow.Author.Needs.{needs}
+use mathlib.Core.Bool.{_||_}
+use lib.Dec.{eqb}
+use Rattle.lead.specs.Names.{noReason}
+use Rattle.lead.specs.Hearing.{within}
 use Rattle.lead.specs.Moves.{reasonAfter}
+use Rattle.lead.proofs.Bools.{when-true, when-false}
 use Rattle.lead.proofs.moves.reason_after.Statement.{statement}
 use Rattle.lead.proofs.moves.reason_after.Tie as tie
 
 returns : tie.Need-returns
 unfolding reasonAfter
-returns c = rw (← c .before .number .ensures, c .if1 .taken)
+returns c =
+    let k = c .before .before .args in
+    rw (← c .before .number .ensures) (when-true (within 7 8 (k .phase) || eqb (c .before .number .result) noReason) (k .reason) (c .before .number .result) (c .if1 .taken))
 
 returns-2 : tie.Need-returns-2
 unfolding reasonAfter
-returns-2 c = rw (← c .before .number .ensures, c .if1 .left)
+returns-2 c =
+    let k = c .before .before .args in
+    rw (← c .before .number .ensures) (when-false (within 7 8 (k .phase) || eqb (c .before .number .result) noReason) (k .reason) (c .before .number .result) (c .if1 .left))
 
 pub reason-after-spec : {M : Type 1} → statement M
 reason-after-spec = tie.close
