@@ -5,8 +5,8 @@ mod hex;
 
 use lead::Ratings;
 use lead_records::InputRecord;
-use lead_records::LeadRecord;
 use lead_records::OutputRecord;
+use lead_records::StateRecord;
 use libc::STDIN_FILENO;
 use libc::STDOUT_FILENO;
 use little_endian::u16_at;
@@ -119,7 +119,7 @@ fn with_hex(mut line: [u8; LINE], at: usize, bytes: &[u8]) -> [u8; LINE]
     line
 }
 
-fn write_done(state: [u8; LeadRecord::SIZE], output: [u8; OutputRecord::SIZE]) {
+fn write_done(state: [u8; StateRecord::SIZE], output: [u8; OutputRecord::SIZE]) {
     let mut line = [0u8; LINE];
     line[0] = DONE;
     line[STATE_TEXT - 1] = b'\t';
@@ -139,7 +139,7 @@ fn tick(ratings: Ratings, level: u32, state: &[u8], given: &[u8])
     requires { ⌜ (length (now state) ≡ stateSize) × (length (now given) ≡ inputSize) ⌝ }
     requires { ⌜ allowedResistance (ratings .resistance) ≡ true ⌝ }
 {
-    if !LeadRecord::is_good(state, ratings) {
+    if !StateRecord::is_good(state, ratings) {
         write_refusal(STATE_NOT_GOOD);
         return;
     }
@@ -148,12 +148,12 @@ fn tick(ratings: Ratings, level: u32, state: &[u8], given: &[u8])
         return;
     }
     let input = InputRecord::read(given, ratings.resistance);
-    let next = LeadRecord::read(state)
+    let next = StateRecord::read(state)
         .decide(ratings, input)
         .command(ratings, level);
     let reading = input.reading;
     write_done(
-        LeadRecord::bytes(next),
+        StateRecord::bytes(next),
         OutputRecord::bytes(ratings, input.contacts.lock, reading, next),
     );
 }

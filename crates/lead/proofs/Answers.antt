@@ -4,29 +4,27 @@ use mathlib.Core.Bool.{Bool, true, false, not, cond, _&&_, _||_}
 use mathlib.Core.List.{List, [], _∷_}
 use mathlib.Core.Logic.{_⊎_, inl, inr}
 use mathlib.Core.Path.{_≡_, refl}
-use Prim.Native.Nat.{ℕ, zero, suc, _+_, _≤_}
+use Prim.Native.Nat.{ℕ, zero, suc, _-_, _≤_}
 use native.Mathlib.Omega.{arith}
-use lib.Dec.{T, leb, ltb, eqb}
+use lib.Dec.{T, T-not, not-T, leb, ltb, eqb}
+use borrow.Author.Tests.{ne-eqb}
 use lib.ListN.{getD}
 use Rattle.readings.specs.Readings.{insulated}
 use Rattle.frames.specs.Heard.{signalsOf}
 use Rattle.frames.specs.Times.{chargingTicks}
-use Rattle.lead.specs.Names.{noReason}
-use Rattle.lead.specs.Hearing.{within}
-use Rattle.lead.specs.Questions.{inSteps, meterOf, thresholdNow, ticksAllowed, viewOf, ordinary, once, questions, isNo, stopOf, firstNo, ask, numberOf}
+use Rattle.lead.specs.Names.{between, noReason}
+use Rattle.lead.specs.Questions.{stepsOf, mostAmperes, meterOf, thresholdNow, ticksAllowed, viewOf, once, questions, isNo, stopOf, firstNo, ask, numberOf, noQuestion, gotNo}
+use Rattle.lead.specs.Hearing.{hear}
 use Rattle.lead.specs.declared.state.Lead.{Lead}
+use Rattle.lead.specs.declared.state.Car.{Car}
 use Rattle.lead.specs.declared.state.Ratings.{Ratings}
 use Rattle.lead.specs.declared.state.Input.{Input}
 use Rattle.lead.specs.declared.questions.View.{View}
 use Rattle.lead.specs.declared.questions.Question.{Question}
 use Rattle.lead.specs.declared.questions.Verdict.{Verdict}
 use Rattle.lead.specs.declared.questions.Verdict.the-variants.{Pass, Urgent, Ordinary}
-use Rattle.lead.proofs.Bools.{and-l, and-r, or-cases, is-true, upTo-at}
+use Rattle.lead.proofs.Bools.{and-l, and-r, or-cases, is-true, between-lo, upTo-at}
 use Rattle.lead.proofs.Phases.{isPass, isUrgent}
-
--- what stands past the end of a list of questions: it never gets a no
-abbrev pub noQuestion : Question
-noQuestion = ordinary noReason 0 0 true
 
 -- the question at a place
 abbrev pub row : List Question → ℕ → Question
@@ -38,7 +36,7 @@ everyRow f (q ∷ rows) = f q && everyRow f rows
 
 module _ (p : ℕ) where
   never : T (isNo p noQuestion) → ⊥
-  never t = and-r (within 0 0 p) false t
+  never t = and-r (between 0 0 p) false t
 
   module _ (f : Verdict → Bool) where
     -- a no at some place: the verdict is the stop of a question up to there
@@ -67,17 +65,12 @@ stop-stops q = go (q .1)
     go true = tt
     go false = tt
 
-contra : (b : Bool) → T b → T (not b) → ⊥
-contra true t n = n
-contra false t n = t
-
 module _ (v : View) (s : Lead) where
   -- without a stop nothing that was asked got a no
   pub pass-yes : T (isPass (ask v s)) → (j : ℕ) → T (isNo (s .stage .phase) (row (questions v s) j)) → ⊥
   unfolding ask
   pass-yes t j n =
-      contra (isPass (ask v s)) t
-      (no-gives (s .stage .phase) (λ w. not (isPass w)) (questions v s) j n (λ i h. stop-stops (row (questions v s) i)))
+      T-not (isPass (ask v s)) (no-gives (s .stage .phase) (λ w. not (isPass w)) (questions v s) j n (λ i h. stop-stops (row (questions v s) i))) t
 
   -- the first eight are urgent, so without an urgent stop none of them got a no
   urgent-rows : (i : ℕ) → i ≤ 7 → T (isUrgent (stopOf (row (questions v s) i)))
@@ -89,21 +82,21 @@ module _ (v : View) (s : Lead) where
   urgent-no j h n = no-gives (s .stage .phase) isUrgent (questions v s) j n (λ i k. urgent-rows i (omega arith))
 
   pub mild-yes : T (not (isUrgent (ask v s))) → (j : ℕ) → j ≤ 7 → T (isNo (s .stage .phase) (row (questions v s) j)) → ⊥
-  mild-yes t j h n = contra (isUrgent (ask v s)) (urgent-no j h n) t
+  mild-yes t j h n = T-not (isUrgent (ask v s)) t (urgent-no j h n)
 
   -- the number of a verdict is 0 or that of a question
-  pub number-known : T (eqb (numberOf (ask v s)) noReason || within 11 29 (numberOf (ask v s)))
+  pub number-known : T (eqb (numberOf (ask v s)) noReason || between 11 29 (numberOf (ask v s)))
   unfolding ask questions
-  number-known = each-gives (s .stage .phase) (λ w. eqb (numberOf w) noReason || within 11 29 (numberOf w)) (questions v s) tt tt
+  number-known = each-gives (s .stage .phase) (λ w. eqb (numberOf w) noReason || between 11 29 (numberOf w)) (questions v s) tt tt
 
 -- rows that are not asked in a phase give no stop
 abbrev unasked : ℕ → Question → Bool
-unasked p q = not (within (q .2) (q .3) p)
+unasked p q = not (between (q .2) (q .3) p)
 
 unasked-pass : (p : ℕ) (rows : List Question) → T (everyRow (unasked p) rows) → firstNo p rows ≡ Pass
 unasked-pass p [] t = refl
 unasked-pass p (q ∷ rows) t =
-    go (within (q .2) (q .3) p) (and-l (unasked p q) (everyRow (unasked p) rows) t)
+    go (between (q .2) (q .3) p) (and-l (unasked p q) (everyRow (unasked p) rows) t)
     (unasked-pass p rows (and-r (unasked p q) (everyRow (unasked p) rows) t))
   where
     go : (b : Bool) → T (not b) → firstNo p rows ≡ Pass → cond (b && not (q .4)) (stopOf q) (firstNo p rows) ≡ Pass
@@ -111,72 +104,80 @@ unasked-pass p (q ∷ rows) t =
     go false n e = e
 
 module _ (v : View) (s : Lead) (p≤ : s .stage .phase ≤ 10) where
-  outside : T (within 1 8 (s .stage .phase) || everyRow (unasked (s .stage .phase)) (questions v s))
+  outside : T (between 1 8 (s .stage .phase) || everyRow (unasked (s .stage .phase)) (questions v s))
   unfolding questions
-  outside = upTo-at 10 (λ p. within 1 8 p || everyRow (unasked p) (questions v s)) tt (s .stage .phase) p≤
+  outside = upTo-at 10 (λ p. between 1 8 p || everyRow (unasked p) (questions v s)) tt (s .stage .phase) p≤
 
   -- outside 1 to 8 nothing is asked
-  pub quiet : T (not (within 1 8 (s .stage .phase))) → ask v s ≡ Pass
+  pub quiet : T (not (between 1 8 (s .stage .phase))) → ask v s ≡ Pass
   unfolding ask
-  quiet t = go (or-cases (within 1 8 (s .stage .phase)) (everyRow (unasked (s .stage .phase)) (questions v s)) outside)
+  quiet t = go (or-cases (between 1 8 (s .stage .phase)) (everyRow (unasked (s .stage .phase)) (questions v s)) outside)
     where
-      go : T (within 1 8 (s .stage .phase)) ⊎ T (everyRow (unasked (s .stage .phase)) (questions v s)) → ask v s ≡ Pass
-      go (inl w) = absurd (contra (within 1 8 (s .stage .phase)) w t)
+      go : T (between 1 8 (s .stage .phase)) ⊎ T (everyRow (unasked (s .stage .phase)) (questions v s)) → ask v s ≡ Pass
+      go (inl w) = absurd (T-not (between 1 8 (s .stage .phase)) t w)
       go (inr u) = unasked-pass (s .stage .phase) (questions v s) u
 
 -- a question that was asked and got no no got a yes
-said-yes : (p : ℕ) (q : Question) → (T (isNo p q) → ⊥) → T (within (q .2) (q .3) p) → T (q .4)
-said-yes p q n t = go (within (q .2) (q .3) p) (q .4) n t
+said-yes : (p : ℕ) (q : Question) → (T (isNo p q) → ⊥) → T (between (q .2) (q .3) p) → T (q .4)
+said-yes p q n t = go (between (q .2) (q .3) p) (q .4) n t
   where
     go : (a b : Bool) → (T (a && not b) → ⊥) → T a → T b
     go true true n t = tt
     go true false n t = n tt
     go false b n t = absurd t
 
--- The answers of questions 11 to 18, of a lead that has heard the tick's frames.
-pub record UrgentYes (c : Ratings) (i : Input) (h : Lead) : Type 0 where
-  pub emergency-out : T (within 1 8 (h .stage .phase)) → T (not (i .contacts .emergency))
-  pub plug-closed : T (within 1 8 (h .stage .phase)) → T (i .contacts .plug)
-  pub no-ground-fault : T (within 1 8 (h .stage .phase)) → T (not (i .contacts .leakage))
-  pub permission-closed : T (within 2 7 (h .stage .phase)) → T (i .contacts .permission)
-  pub reading-good : T (within 3 7 (h .stage .phase)) → T (meterOf (i .reading) .good)
-  pub volts-in-range : T (within 5 7 (h .stage .phase)) → T (leb (meterOf (i .reading) .volts) (inSteps (thresholdNow c h)))
-  pub amperes-in-range : T (within 5 7 (h .stage .phase)) → T (leb (meterOf (i .reading) .amperes) (inSteps (c .amperes + 5)))
-  pub lock-closed : T (within 3 7 (h .stage .phase)) → T (i .contacts .lock)
+-- The answers of questions 11 to 18 in a tick that starts at s.
+pub record UrgentYes (c : Ratings) (i : Input) (s : Lead) : Type 0 where
+  pub emergency-out : T (between 1 8 (s .stage .phase)) → T (not (i .contacts .emergency))
+  pub plug-closed : T (between 1 8 (s .stage .phase)) → T (i .contacts .plug)
+  pub no-ground-fault : T (between 1 8 (s .stage .phase)) → T (not (i .contacts .leakage))
+  pub permission-closed : T (between 2 7 (s .stage .phase)) → T (i .contacts .permission)
+  pub reading-good : T (between 3 7 (s .stage .phase)) → T (meterOf (i .reading) .good)
+  pub volts-in-range : T (between 5 7 (s .stage .phase)) → T (leb (meterOf (i .reading) .volts) (stepsOf (s .threshold)))
+  pub amperes-in-range : T (between 5 7 (s .stage .phase)) → T (leb (meterOf (i .reading) .amperes) (mostAmperes (c .amperes)))
+  pub lock-closed : T (between 3 7 (s .stage .phase)) → T (i .contacts .lock)
 
--- The answers of questions 19 to 29.
-pub record OrdinaryYes (c : Ratings) (i : Input) (h : Lead) : Type 0 where
-  pub car-heard : T (within 2 6 (h .stage .phase)) → T (ltb (h .car .silence) 10)
-  pub faults-clear : T (within 1 6 (h .stage .phase)) → T (signalsOf (h .car .status .value) .clear)
+-- The answers of questions 19 to 29. `car` is what the lead knows of the car once it has heard the tick's frames.
+pub record OrdinaryYes (c : Ratings) (i : Input) (s : Lead) (car : Car) : Type 0 where
+  pub car-heard : T (between 2 6 (s .stage .phase)) → T (ltb (car .silence) 10)
+  pub faults-clear : T (between 1 6 (s .stage .phase)) → T (signalsOf (car .status .value) .clear)
   pub compatible :
-      T (within 1 6 (h .stage .phase))
+      T (between 1 6 (s .stage .phase))
       → T
-      (once (h .car .battery .seen && h .car .status .seen)
-      (leb 50 (h .car .battery .maximum)
-      && leb 50 (h .car .status .value .target)
-      && leb (h .car .status .value .target) (thresholdNow c h)))
-  pub in-park : T (within 1 6 (h .stage .phase)) → T (signalsOf (h .car .status .value) .parked)
-  pub enabled : T (within 2 6 (h .stage .phase)) → T (signalsOf (h .car .status .value) .enabled)
-  pub no-stop-request : T (within 1 6 (h .stage .phase)) → T (not (signalsOf (h .car .status .value) .stop))
-  pub contactor-closed : T (within 6 6 (h .stage .phase)) → T (signalsOf (h .car .status .value) .closed)
-  pub stop-button-out : T (within 1 6 (h .stage .phase)) → T (not (i .contacts .stop))
-  pub insulation-high : T (within 3 3 (h .stage .phase)) → T (insulated (thresholdNow c h) (i .insulation))
-  pub phase-in-time : T (within 1 5 (h .stage .phase)) → T (ltb (h .stage .age) (getD ticksAllowed (h .stage .phase) 0))
-  pub charging-in-time : T (within 6 6 (h .stage .phase)) → T (ltb (h .stage .age) (chargingTicks (h .car .time .value)))
+      (once (car .battery .seen && car .status .seen)
+      (leb 50 (car .battery .maximum)
+      && leb 50 (car .status .value .target)
+      && leb (car .status .value .target) (thresholdNow c (hear i s))))
+  pub in-park : T (between 1 6 (s .stage .phase)) → T (signalsOf (car .status .value) .parked)
+  pub enabled : T (between 2 6 (s .stage .phase)) → T (signalsOf (car .status .value) .enabled)
+  pub no-stop-request : T (between 1 6 (s .stage .phase)) → T (not (signalsOf (car .status .value) .stop))
+  pub contactor-closed : T (between 6 6 (s .stage .phase)) → T (signalsOf (car .status .value) .closed)
+  pub stop-button-out : T (between 1 6 (s .stage .phase)) → T (not (i .contacts .stop))
+  pub insulation-high : T (between 3 3 (s .stage .phase)) → T (insulated (s .threshold) (i .insulation))
+  pub phase-in-time : T (between 1 5 (s .stage .phase)) → T (ltb (s .stage .age) (getD ticksAllowed (s .stage .phase) 0))
+  pub charging-in-time : T (between 6 6 (s .stage .phase)) → T (ltb (s .stage .age) (chargingTicks (car .time .value)))
 
-module _ (c : Ratings) (i : Input) (h : Lead) where
+-- past phase 1 the threshold is the kept one
+pub threshold-kept : (c : Ratings) (i : Input) (s : Lead) → 2 ≤ s .stage .phase → thresholdNow c (hear i s) ≡ s .threshold
+unfolding hear
+threshold-kept c i s h = rw (ne-eqb (s .stage .phase) 1 (omega arith))
+
+module _ (c : Ratings) (i : Input) (s : Lead) where
+  abbrev verdict : Verdict
+  verdict = ask (viewOf c i (hear i s)) (hear i s)
+
   abbrev asked-row : ℕ → Question
-  asked-row j = row (questions (viewOf c i h) h) j
+  asked-row j = row (questions (viewOf c i (hear i s)) (hear i s)) j
 
-  urgent-said : T (not (isUrgent (ask (viewOf c i h) h))) → (j : ℕ) → j ≤ 7 → T (within (asked-row j .2) (asked-row j .3) (h .stage .phase)) → T (asked-row j .4)
-  urgent-said t j k = said-yes (h .stage .phase) (asked-row j) (mild-yes (viewOf c i h) h t j k)
+  urgent-said : T (not (isUrgent verdict)) → (j : ℕ) → j ≤ 7 → T (between (asked-row j .2) (asked-row j .3) (hear i s .stage .phase)) → T (asked-row j .4)
+  urgent-said t j k = said-yes (hear i s .stage .phase) (asked-row j) (mild-yes (viewOf c i (hear i s)) (hear i s) t j k)
 
-  said : T (isPass (ask (viewOf c i h) h)) → (j : ℕ) → T (within (asked-row j .2) (asked-row j .3) (h .stage .phase)) → T (asked-row j .4)
-  said t j = said-yes (h .stage .phase) (asked-row j) (pass-yes (viewOf c i h) h t j)
+  said : T (isPass verdict) → (j : ℕ) → T (between (asked-row j .2) (asked-row j .3) (hear i s .stage .phase)) → T (asked-row j .4)
+  said t j = said-yes (hear i s .stage .phase) (asked-row j) (pass-yes (viewOf c i (hear i s)) (hear i s) t j)
 
   -- what a tick without an urgent stop implies
-  pub urgent-yes : T (not (isUrgent (ask (viewOf c i h) h))) → UrgentYes c i h
-  unfolding questions viewOf
+  pub urgent-yes : T (not (isUrgent verdict)) → UrgentYes c i s
+  unfolding questions viewOf hear
   urgent-yes t =
       record {
         emergency-out = urgent-said t 0 (omega arith);
@@ -184,14 +185,14 @@ module _ (c : Ratings) (i : Input) (h : Lead) where
         no-ground-fault = urgent-said t 2 (omega arith);
         permission-closed = urgent-said t 3 (omega arith);
         reading-good = urgent-said t 4 (omega arith);
-        volts-in-range = urgent-said t 5 (omega arith);
+        volts-in-range = λ w. rw (threshold-kept c i s (omega (arith, between-lo 5 7 (s .stage .phase) w))) at (urgent-said t 5 (omega arith) w);
         amperes-in-range = urgent-said t 6 (omega arith);
         lock-closed = urgent-said t 7 (omega arith);
       }
 
   -- what a tick without a stop implies
-  pub ordinary-yes : T (isPass (ask (viewOf c i h) h)) → OrdinaryYes c i h
-  unfolding questions viewOf
+  pub ordinary-yes : T (isPass verdict) → OrdinaryYes c i s (hear i s .car)
+  unfolding questions viewOf hear
   ordinary-yes t =
       record {
         car-heard = said t 8;
@@ -202,10 +203,30 @@ module _ (c : Ratings) (i : Input) (h : Lead) where
         no-stop-request = said t 13;
         contactor-closed = said t 14;
         stop-button-out = said t 15;
-        insulation-high = said t 16;
+        insulation-high = λ w. rw (threshold-kept c i s (omega (arith, between-lo 3 3 (s .stage .phase) w))) at (said t 16 w);
         phase-in-time = said t 17;
         charging-in-time = said t 18;
       }
+
+  -- a no, of whichever question, is a stop; of 11 to 18 an urgent one; and it is said in 1 to 8 only
+  module _ (n : ℕ) (no : T (gotNo c i s n)) where
+    its-row : T (isNo (hear i s .stage .phase) (asked-row (n - 11)))
+    unfolding gotNo hear
+    its-row = and-r (leb 11 n) (isNo (s .stage .phase) (asked-row (n - 11))) no
+
+    pub no-is-stop : T (not (isPass verdict))
+    no-is-stop = not-T (isPass verdict) (λ t. pass-yes (viewOf c i (hear i s)) (hear i s) t (n - 11) its-row)
+
+    pub no-is-urgent : n ≤ 18 → T (isUrgent verdict)
+    no-is-urgent h = urgent-no (viewOf c i (hear i s)) (hear i s) (n - 11) (omega arith) its-row
+
+    pub no-in-1-8 : s .stage .phase ≤ 10 → T (between 1 8 (s .stage .phase))
+    unfolding hear
+    no-in-1-8 p≤ = go (between 1 8 (s .stage .phase)) refl
+      where
+        go : (b : Bool) → between 1 8 (s .stage .phase) ≡ b → T b
+        go true e = tt
+        go false e = T-not (isPass verdict) no-is-stop (rw (quiet (viewOf c i (hear i s)) (hear i s) p≤ (rw e tt)) tt)
 
 -- a tick without a stop has no urgent one
 pub pass-mild : (w : Verdict) → T (isPass w) → T (not (isUrgent w))

@@ -6,7 +6,7 @@ use Prim.Native.Nat.{ℕ, zero, suc, _≤_, _<_}
 use native.Mathlib.Omega.{arith}
 use lib.Dec.{T, leb, leb→le, le→leb}
 use borrow.Author.Tests.{leb-true, leb-false}
-use Rattle.lead.specs.Hearing.{within}
+use Rattle.lead.specs.Names.{between}
 
 pub and-l : (a b : Bool) → T (a && b) → T a
 and-l true b t = tt
@@ -55,10 +55,6 @@ is-false false n = refl
 pub holds : (b : Bool) → b ≡ true → T b
 holds b e = subst T (sym e) tt
 
-pub not-holds : (b : Bool) → (T b → ⊥) → T (not b)
-not-holds true n = n tt
-not-holds false n = tt
-
 -- the case of a choice that is made
 module _ {A : Type 0} (b : Bool) (x y : A) where
   pub when-true : b ≡ true → x ≡ cond b x y
@@ -68,14 +64,14 @@ module _ {A : Type 0} (b : Bool) (x y : A) where
   when-false e = rw e
 
 module _ (first last p : ℕ) where
-  pub within-of : first ≤ p → p ≤ last → T (within first last p)
-  within-of a b = both (leb first p) (leb p last) (le→leb first p a) (le→leb p last b)
+  pub between-of : first ≤ p → p ≤ last → T (between first last p)
+  between-of a b = both (leb first p) (leb p last) (le→leb first p a) (le→leb p last b)
 
-  pub within-lo : T (within first last p) → first ≤ p
-  within-lo t = leb→le first p (and-l (leb first p) (leb p last) t)
+  pub between-lo : T (between first last p) → first ≤ p
+  between-lo t = leb→le first p (and-l (leb first p) (leb p last) t)
 
-  pub within-hi : T (within first last p) → p ≤ last
-  within-hi t = leb→le p last (and-r (leb first p) (leb p last) t)
+  pub between-hi : T (between first last p) → p ≤ last
+  between-hi t = leb→le p last (and-r (leb first p) (leb p last) t)
 
 -- a test at each number up to n
 abbrev pub upTo : ℕ → (ℕ → Bool) → Bool

@@ -5,11 +5,11 @@ use Prim.Native.Nat.{ℕ, _+_, _-_, _/_, _≤_, min}
 use native.Mathlib.Omega.{arith}
 use lib.Dec.{T, eqb}
 use borrow.Author.Tests.{ne-eqb}
-use Rattle.lead.specs.Hearing.{within}
+use Rattle.lead.specs.Names.{between}
 use Rattle.lead.specs.Power.{wanted, wantedWatts, commanded}
 use Rattle.lead.specs.declared.state.Lead.{Lead}
 use Rattle.lead.specs.declared.state.Ratings.{Ratings}
-use Rattle.lead.proofs.Bools.{within-of}
+use Rattle.lead.proofs.Bools.{between-of}
 use Rattle.lead.proofs.Watts.{carried-most}
 
 module _ (c : Ratings) (level : ℕ) (s : Lead) where
@@ -42,11 +42,11 @@ module _ (c : Ratings) (s : Lead) where
   unfolding wanted
   want-7 e = rw e
 
-  pub want-0 : (T (within 6 7 (s .stage .phase)) → ⊥) → wanted c s ≡ 0
+  pub want-0 : (T (between 6 7 (s .stage .phase)) → ⊥) → wanted c s ≡ 0
   unfolding wanted
   want-0 n =
       rw
-      (ne-eqb (s .stage .phase) 6 (λ e. n (within-of 6 7 (s .stage .phase) (omega arith) (omega arith))), ne-eqb (s .stage .phase) 7 (λ e. n (within-of 6 7 (s .stage .phase) (omega arith) (omega arith))))
+      (ne-eqb (s .stage .phase) 6 (λ e. n (between-of 6 7 (s .stage .phase) (omega arith) (omega arith))), ne-eqb (s .stage .phase) 7 (λ e. n (between-of 6 7 (s .stage .phase) (omega arith) (omega arith))))
 
   -- a lead wants no more than its rating, or than what it had
   pub want-rated : s .command ≤ c .amperes → wanted c s ≤ c .amperes
@@ -61,5 +61,5 @@ module _ (c : Ratings) (s : Lead) where
       go false false = omega arith
 
 -- outside 6 and 7 the command is 0
-pub command-0 : (c : Ratings) (level : ℕ) (s : Lead) → (T (within 6 7 (s .stage .phase)) → ⊥) → commanded c level s .command ≡ 0
+pub command-0 : (c : Ratings) (level : ℕ) (s : Lead) → (T (between 6 7 (s .stage .phase)) → ⊥) → commanded c level s .command ≡ 0
 command-0 c level s n = let h : commanded c level s .command ≤ wanted c s = command-most c level s in omega (arith, want-0 c s n)

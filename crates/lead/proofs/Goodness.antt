@@ -1,43 +1,38 @@
--- A good lead stays good, whatever a tick brings and whatever the level. Assumes nothing.
+-- A good lead of a post with rated volts from 50 on stays good, whatever a tick brings and whatever the level. Assumes nothing.
 use mathlib.Core.Bool.{Bool, true, false, not, cond, _&&_, _||_}
 use mathlib.Core.Logic.{_⊎_, inl, inr}
 use mathlib.Core.Path.{_≡_, refl, sym, subst, ap, _∙_}
 use Prim.Native.Nat.{ℕ, _≤_, min}
 use native.Mathlib.Omega.{arith}
-use lib.Dec.{T, leb, eqb, leb→le, le→leb, eqb→eq}
+use lib.Dec.{T, T-not, not-T, leb, eqb, leb→le, le→leb, eqb→eq}
 use borrow.Author.Tests.{eq-eqb}
 use Rattle.frames.specs.Heard.{signalsOf}
-use Rattle.lead.specs.Names.{handshake, locking, noReason}
-use Rattle.lead.specs.Hearing.{within, blank, fresh, hear}
+use Rattle.lead.specs.Names.{between, handshake, locking, noReason}
+use Rattle.lead.specs.Hearing.{blank, fresh, hear}
 use Rattle.lead.specs.Questions.{thresholdNow, viewOf, numberOf}
 use Rattle.lead.specs.Moves.{reasonAfter, decide}
 use Rattle.lead.specs.Power.{wanted, commanded}
 use Rattle.lead.specs.Good.{goodThreshold, goodLead}
 use Rattle.lead.specs.declared.state.Lead.{Lead}
 use Rattle.lead.specs.declared.state.Ratings.{Ratings}
-use Rattle.lead.specs.declared.state.Stage.{Stage}
+use Rattle.lead.specs.declared.state.Car.{Car}
 use Rattle.lead.specs.declared.state.Input.{Input}
-use Rattle.lead.proofs.Bools.{and-l, and-r, both, or-cases, or-r, mp, imp-of, is-false, holds, not-holds, within-of, within-lo}
+use Rattle.lead.proofs.Bools.{and-l, and-r, both, or-cases, or-r, mp, imp-of, is-false, holds, between-of, between-lo}
 use Rattle.lead.proofs.Phases as phases
 use Rattle.lead.proofs.Phases.{isPass}
 use Rattle.lead.proofs.Answers.{OrdinaryYes, ordinary-yes, number-known}
-use Rattle.lead.proofs.Hears.{hear-stage}
 use Rattle.lead.proofs.Ticks.{verdict, may, phaseAfter, start, MoveMet, move-met, decide-phase, started, WentOn, not-started}
 use Rattle.lead.proofs.Commands.{command-most, command-0, want-rated}
 
 -- what the good-state check says of a lead
 pub record Good (c : Ratings) (s : Lead) : Type 0 where
   pub phase : s .stage .phase ≤ 10
-  pub reason : T (eqb (s .stage .reason) noReason || within 11 29 (s .stage .reason))
+  pub reason : T (eqb (s .stage .reason) noReason || between 11 29 (s .stage .reason))
   pub most : s .command ≤ c .amperes
-  pub idle : (T (within 6 7 (s .stage .phase)) → ⊥) → s .command ≡ 0
-  pub threshold : T (eqb (s .threshold) 0 || within 50 (c .volts) (s .threshold))
+  pub unpowered : (T (between 6 7 (s .stage .phase)) → ⊥) → s .command ≡ 0
+  pub threshold : T (eqb (s .threshold) 0 || between 50 (c .volts) (s .threshold))
   pub unkept : s .stage .phase ≡ 1 → s .threshold ≡ 0
-  pub kept : T (within 2 7 (s .stage .phase)) → s .threshold ≡ 0 → ⊥
-
-not-both : (b : Bool) → T (not b) → T b → ⊥
-not-both true n t = n
-not-both false n t = t
+  pub kept : T (between 2 7 (s .stage .phase)) → s .threshold ≡ 0 → ⊥
 
 module _ (c : Ratings) (s : Lead) where
   abbrev p : ℕ
@@ -47,22 +42,22 @@ module _ (c : Ratings) (s : Lead) where
   t = s .threshold
 
   abbrev known : Bool
-  known = eqb (s .stage .reason) noReason || within 11 29 (s .stage .reason)
+  known = eqb (s .stage .reason) noReason || between 11 29 (s .stage .reason)
 
   abbrev rated : Bool
   rated = leb (s .command) (c .amperes)
 
   abbrev spent : Bool
-  spent = within 6 7 p || eqb (s .command) 0
+  spent = between 6 7 p || eqb (s .command) 0
 
   abbrev volts : Bool
-  volts = eqb t 0 || within 50 (c .volts) t
+  volts = eqb t 0 || between 50 (c .volts) t
 
   abbrev none : Bool
   none = not (eqb p handshake) || eqb t 0
 
   abbrev some : Bool
-  some = not (within 2 7 p) || not (eqb t 0)
+  some = not (between 2 7 p) || not (eqb t 0)
 
   pub good-says : T (goodLead c s) → Good c s
   unfolding goodLead goodThreshold
@@ -76,30 +71,30 @@ module _ (c : Ratings) (s : Lead) where
         phase = leb→le p 10 (and-l (leb p 10) known start);
         reason = and-r (leb p 10) known start;
         most = leb→le (s .command) (c .amperes) (and-l rated spent power);
-        idle = λ n. idle-of (or-cases (within 6 7 p) (eqb (s .command) 0) (and-r rated spent power)) n;
+        unpowered = λ n. none-commanded (or-cases (between 6 7 p) (eqb (s .command) 0) (and-r rated spent power)) n;
         threshold = and-l volts none early;
         unkept = λ e. eqb→eq t 0 (mp (eqb p handshake) (eqb t 0) (and-r volts none early) (holds (eqb p handshake) (eq-eqb p handshake e)));
-        kept = λ w e. not-both (eqb t 0) (mp (within 2 7 p) (not (eqb t 0)) (and-r (volts && none) some last) w) (holds (eqb t 0) (eq-eqb t 0 e));
+        kept = λ w e. T-not (eqb t 0) (mp (between 2 7 p) (not (eqb t 0)) (and-r (volts && none) some last) w) (holds (eqb t 0) (eq-eqb t 0 e));
       }
     where
-      idle-of : T (within 6 7 p) ⊎ T (eqb (s .command) 0) → (T (within 6 7 p) → ⊥) → s .command ≡ 0
-      idle-of (inl w) n = absurd (n w)
-      idle-of (inr e) n = eqb→eq (s .command) 0 e
+      none-commanded : T (between 6 7 p) ⊎ T (eqb (s .command) 0) → (T (between 6 7 p) → ⊥) → s .command ≡ 0
+      none-commanded (inl w) n = absurd (n w)
+      none-commanded (inr e) n = eqb→eq (s .command) 0 e
 
   pub good-of : Good c s → T (goodLead c s)
   unfolding goodLead goodThreshold
   good-of g =
       both (leb p 10 && known && (rated && spent)) (volts && none && some)
       (both (leb p 10 && known) (rated && spent) (both (leb p 10) known (le→leb p 10 (g .phase)) (g .reason))
-      (both rated spent (le→leb (s .command) (c .amperes) (g .most)) (go (within 6 7 p) refl)))
+      (both rated spent (le→leb (s .command) (c .amperes) (g .most)) (go (between 6 7 p) refl)))
       (both (volts && none) some
       (both volts none (g .threshold)
       (imp-of (eqb p handshake) (eqb t 0) (λ e. holds (eqb t 0) (eq-eqb t 0 (g .unkept (eqb→eq p handshake e))))))
-      (imp-of (within 2 7 p) (not (eqb t 0)) (λ w. not-holds (eqb t 0) (λ e. g .kept w (eqb→eq t 0 e)))))
+      (imp-of (between 2 7 p) (not (eqb t 0)) (λ w. not-T (eqb t 0) (λ e. g .kept w (eqb→eq t 0 e)))))
     where
-      go : (b : Bool) → within 6 7 p ≡ b → T (b || eqb (s .command) 0)
+      go : (b : Bool) → between 6 7 p ≡ b → T (b || eqb (s .command) 0)
       go true e = tt
-      go false e = holds (eqb (s .command) 0) (eq-eqb (s .command) 0 (g .idle (λ w. subst T e w)))
+      go false e = holds (eqb (s .command) 0) (eq-eqb (s .command) 0 (g .unpowered (λ w. subst T e w)))
 
 -- a blank lead in a phase in which no threshold is kept yet
 module _ (c : Ratings) where
@@ -109,10 +104,10 @@ module _ (c : Ratings) where
         phase = omega arith;
         reason = tt;
         most = omega arith;
-        idle = λ n. refl;
+        unpowered = λ n. refl;
         threshold = tt;
         unkept = λ e. refl;
-        kept = λ w e. absurd (let lo : 2 ≤ q = within-lo 2 7 q w in omega arith);
+        kept = λ w e. absurd (let lo : 2 ≤ q = between-lo 2 7 q w in omega arith);
       }
 
   pub fresh-good : T (goodLead c fresh)
@@ -120,7 +115,7 @@ module _ (c : Ratings) where
 
 -- a command leaves a lead good
 module _ (c : Ratings) (level : ℕ) (s : Lead) (g : Good c s) where
-  command-good : Good c (commanded c level s)
+  pub command-good : Good c (commanded c level s)
   unfolding commanded
   command-good =
       let m : commanded c level s .command ≤ wanted c s = command-most c level s in
@@ -128,47 +123,54 @@ module _ (c : Ratings) (level : ℕ) (s : Lead) (g : Good c s) where
         phase = g .phase;
         reason = g .reason;
         most = omega (arith, want-rated c s (g .most));
-        idle = λ n. command-0 c level s n;
+        unpowered = λ n. command-0 c level s n;
         threshold = g .threshold;
         unkept = g .unkept;
         kept = g .kept;
       }
 
 -- a lead in phase 1 that moves on has a threshold from 50 to the rated volts
-module _ (c : Ratings) (i : Input) (h : Lead) (wide : 50 ≤ c .volts) (e : h .stage .phase ≡ 1) (yes : OrdinaryYes c i h) (met : MoveMet c i h) where
-  abbrev b : Bool
-  b = h .car .battery .seen
+module _
+    (c : Ratings) (i : Input) (s : Lead) (wide : 50 ≤ c .volts) (e : s .stage .phase ≡ 1) (yes : OrdinaryYes c i s (hear i s .car))
+    (met : MoveMet i s (hear i s .car)) where
+  abbrev car : Car
+  car = hear i s .car
 
-  abbrev d : Bool
-  d = h .car .time .seen
+  abbrev all-seen : Bool
+  all-seen = car .battery .seen && car .time .seen && car .status .seen
 
-  abbrev f : Bool
-  f = h .car .status .seen
+  abbrev enough : Bool
+  enough = leb 50 (car .battery .maximum)
 
-  abbrev in-range : Bool
-  in-range =
-      leb 50 (h .car .battery .maximum)
-      && leb 50 (h .car .status .value .target)
-      && leb (h .car .status .value .target) (thresholdNow c h)
+  abbrev target : Bool
+  target = leb 50 (car .status .value .target)
 
-  seen-all : T (b && d && f)
-  seen-all = and-l (b && d && f) (i .contacts .permission) (and-l (b && d && f && i .contacts .permission) (signalsOf (h .car .status .value) .enabled) (met .from-1 e))
+  abbrev below : Bool
+  below = leb (car .status .value .target) (thresholdNow c (hear i s))
 
-  seen-both : T (b && f)
-  seen-both = both b f (and-l b d (and-l (b && d) f seen-all)) (and-r (b && d) f seen-all)
+  seen-all : T all-seen
+  seen-all =
+      and-l all-seen (i .contacts .permission)
+      (and-l (all-seen && i .contacts .permission) (signalsOf (car .status .value) .enabled) (met .out-of-1 e))
 
-  battery-range : 50 ≤ h .car .battery .maximum
+  seen-both : T (car .battery .seen && car .status .seen)
+  seen-both =
+      both (car .battery .seen) (car .status .seen)
+      (and-l (car .battery .seen) (car .time .seen) (and-l (car .battery .seen && car .time .seen) (car .status .seen) seen-all))
+      (and-r (car .battery .seen && car .time .seen) (car .status .seen) seen-all)
+
+  battery-range : 50 ≤ car .battery .maximum
   battery-range =
-      let asked : T (within 1 6 (h .stage .phase)) = within-of 1 6 (h .stage .phase) (omega arith) (omega arith) in
-      let answer : T in-range = mp (b && f) in-range (yes .compatible asked) seen-both in
-      leb→le 50 (h .car .battery .maximum)
-      (and-l (leb 50 (h .car .battery .maximum)) (leb 50 (h .car .status .value .target))
-      (and-l (leb 50 (h .car .battery .maximum) && leb 50 (h .car .status .value .target)) (leb (h .car .status .value .target) (thresholdNow c h)) answer))
+      let asked : T (between 1 6 (s .stage .phase)) = between-of 1 6 (s .stage .phase) (omega arith) (omega arith) in
+      let answer : T (enough && target && below) = mp (car .battery .seen && car .status .seen) (enough && target && below) (yes .compatible asked) seen-both in
+      leb→le 50 (car .battery .maximum) (and-l enough target (and-l (enough && target) below answer))
 
-  kept-range : (50 ≤ thresholdNow c h) × (thresholdNow c h ≤ c .volts)
-  kept-range =
-      let worked-out : thresholdNow c h ≡ min (c .volts) (h .car .battery .maximum) = rw (eq-eqb _ _ e) in
-      (omega (arith, battery-range), omega arith)
+  worked-out : thresholdNow c (hear i s) ≡ min (c .volts) (car .battery .maximum)
+  unfolding hear
+  worked-out = rw (eq-eqb _ _ e)
+
+  kept-range : (50 ≤ thresholdNow c (hear i s)) × (thresholdNow c (hear i s) ≤ c .volts)
+  kept-range = (omega (arith, battery-range, worked-out), omega (arith, worked-out))
 
 -- a tick that does not start the lead
 module _ (c : Ratings) (i : Input) (s : Lead) (wide : 50 ≤ c .volts) (g : Good c s) (off : start c i s ≡ false) where
@@ -184,23 +186,20 @@ module _ (c : Ratings) (i : Input) (s : Lead) (wide : 50 ≤ c .volts) (g : Good
   on : WentOn c i s
   on = not-started c i s off
 
-  heard-phase : h .stage .phase ≡ before
-  heard-phase = ap (λ (x : Stage). x .phase) (hear-stage i s)
+  moved-on : before ≡ 1 → T (between 2 7 q) → T (eqb q 2 && isPass (verdict c i s) && may c i s)
+  moved-on e w =
+      mp (eqb before 1 && between 2 7 q) (eqb q 2 && isPass (verdict c i s) && may c i s)
+      (phases.from-1 before (g .phase) (verdict c i s) (may c i s))
+      (both (eqb before 1) (between 2 7 q) (holds (eqb before 1) (eq-eqb before 1 e)) w)
 
   -- the move from 1 to 2 keeps a threshold from 50 to the rated volts
-  moved-on : before ≡ 1 → T (within 2 7 q) → T (eqb q 2 && isPass (verdict c i s) && may c i s)
-  moved-on e w =
-      mp (eqb before 1 && within 2 7 q) (eqb q 2 && isPass (verdict c i s) && may c i s)
-      (phases.from-1 before (g .phase) (verdict c i s) (may c i s))
-      (both (eqb before 1) (within 2 7 q) (holds (eqb before 1) (eq-eqb before 1 e)) w)
-
-  keeps : before ≡ 1 → T (within 2 7 q) → (q ≡ 2) × ((50 ≤ thresholdNow c h) × (thresholdNow c h ≤ c .volts))
+  keeps : before ≡ 1 → T (between 2 7 q) → (q ≡ 2) × ((50 ≤ thresholdNow c h) × (thresholdNow c h ≤ c .volts))
   keeps e w =
       let to-2 : T (eqb q 2 && isPass (verdict c i s)) = and-l (eqb q 2 && isPass (verdict c i s)) (may c i s) (moved-on e w) in (
         eqb→eq q 2 (and-l (eqb q 2) (isPass (verdict c i s)) to-2),
-        kept-range c i h wide (heard-phase ∙ e)
-            (ordinary-yes c i h (and-r (eqb q 2) (isPass (verdict c i s)) to-2))
-            (move-met c i h (and-r (eqb q 2 && isPass (verdict c i s)) (may c i s) (moved-on e w))),
+        kept-range c i s wide e
+            (ordinary-yes c i s (and-r (eqb q 2) (isPass (verdict c i s)) to-2))
+            (move-met c i s (and-r (eqb q 2 && isPass (verdict c i s)) (may c i s) (moved-on e w))),
       )
 
   -- the threshold after the tick, by whether it is kept in it
@@ -210,17 +209,17 @@ module _ (c : Ratings) (i : Input) (s : Lead) (wide : 50 ≤ c .volts) (g : Good
   after : (b : Bool) → keeping ≡ b → decide c i s .threshold ≡ cond b (thresholdNow c h) (s .threshold)
   after b e = on .threshold ∙ ap (λ (x : Bool). cond x (thresholdNow c h) (s .threshold)) e
 
-  threshold-after : T (eqb (decide c i s .threshold) 0 || within 50 (c .volts) (decide c i s .threshold))
+  threshold-after : T (eqb (decide c i s .threshold) 0 || between 50 (c .volts) (decide c i s .threshold))
   threshold-after = go keeping refl
     where
-      go : (b : Bool) → keeping ≡ b → T (eqb (decide c i s .threshold) 0 || within 50 (c .volts) (decide c i s .threshold))
+      go : (b : Bool) → keeping ≡ b → T (eqb (decide c i s .threshold) 0 || between 50 (c .volts) (decide c i s .threshold))
       go true e =
           let was-1 : before ≡ 1 = eqb→eq before 1 (and-l (eqb before 1) (eqb q 2) (holds keeping e)) in
           let now-2 : q ≡ 2 = eqb→eq q 2 (and-r (eqb before 1) (eqb q 2) (holds keeping e)) in
-          let k = keeps was-1 (within-of 2 7 q (omega arith) (omega arith)) in
+          let k = keeps was-1 (between-of 2 7 q (omega arith) (omega arith)) in
           let is : decide c i s .threshold ≡ thresholdNow c h = after true e in
-          or-r (eqb (decide c i s .threshold) 0) (within 50 (c .volts) (decide c i s .threshold))
-          (within-of 50 (c .volts) (decide c i s .threshold) (omega (arith, k .1 .0)) (omega (arith, k .1 .1)))
+          or-r (eqb (decide c i s .threshold) 0) (between 50 (c .volts) (decide c i s .threshold))
+          (between-of 50 (c .volts) (decide c i s .threshold) (omega (arith, k .1 .0)) (omega (arith, k .1 .1)))
       go false e = rw (after false e) (g .threshold)
 
   unkept-after : q ≡ 1 → decide c i s .threshold ≡ 0
@@ -234,15 +233,15 @@ module _ (c : Ratings) (i : Input) (s : Lead) (wide : 50 ≤ c .volts) (g : Good
       go one (inl zero) = absurd (subst T off (both (eqb before 0) (eqb q 1) zero one))
       go one (inr was-1) = g .unkept (eqb→eq before 1 was-1)
 
-  kept-after : T (within 2 7 q) → decide c i s .threshold ≡ 0 → ⊥
+  kept-after : T (between 2 7 q) → decide c i s .threshold ≡ 0 → ⊥
   kept-after w e =
       go
-      (or-cases (within 2 7 before) (eqb before 1 && may c i s)
-      (mp (within 2 7 q) (within 2 7 before || eqb before 1 && may c i s) (phases.into-2-7 before (g .phase) (verdict c i s) (may c i s)) w))
+      (or-cases (between 2 7 before) (eqb before 1 && may c i s)
+      (mp (between 2 7 q) (between 2 7 before || eqb before 1 && may c i s) (phases.into-2-7 before (g .phase) (verdict c i s) (may c i s)) w))
     where
-      go : T (within 2 7 before) ⊎ T (eqb before 1 && may c i s) → ⊥
+      go : T (between 2 7 before) ⊎ T (eqb before 1 && may c i s) → ⊥
       go (inl was) =
-          let lo : 2 ≤ before = within-lo 2 7 before was in
+          let lo : 2 ≤ before = between-lo 2 7 before was in
           let not-kept : keeping ≡ false = is-false keeping (λ t. let one : before ≡ 1 = eqb→eq before 1 (and-l (eqb before 1) (eqb q 2) t) in omega arith) in
           g .kept was (sym (after false not-kept) ∙ e)
       go (inr was) =
@@ -253,20 +252,20 @@ module _ (c : Ratings) (i : Input) (s : Lead) (wide : 50 ≤ c .volts) (g : Good
           omega (arith, k .1 .0)
 
   command-after : decide c i s .command ≤ c .amperes
-  command-after = rw (on .command) (go (within 6 7 q))
+  command-after = rw (on .command) (go (between 6 7 q))
     where
       go : (b : Bool) → cond b (s .command) 0 ≤ c .amperes
       go true = g .most
       go false = omega arith
 
-  idle-after : (T (within 6 7 q) → ⊥) → decide c i s .command ≡ 0
-  idle-after n = rw (on .command, is-false (within 6 7 q) n)
+  command-gone : (T (between 6 7 q) → ⊥) → decide c i s .command ≡ 0
+  command-gone n = rw (on .command, is-false (between 6 7 q) n)
 
-  reason-after : T (eqb (decide c i s .stage .reason) noReason || within 11 29 (decide c i s .stage .reason))
+  reason-after : T (eqb (decide c i s .stage .reason) noReason || between 11 29 (decide c i s .stage .reason))
   unfolding reasonAfter
-  reason-after = rw (on .reason) (go (within 7 8 before || eqb (numberOf (verdict c i s)) noReason))
+  reason-after = rw (on .reason) (go (between 7 8 before || eqb (numberOf (verdict c i s)) noReason))
     where
-      go : (b : Bool) → T (eqb (cond b (s .stage .reason) (numberOf (verdict c i s))) noReason || within 11 29 (cond b (s .stage .reason) (numberOf (verdict c i s))))
+      go : (b : Bool) → T (eqb (cond b (s .stage .reason) (numberOf (verdict c i s))) noReason || between 11 29 (cond b (s .stage .reason) (numberOf (verdict c i s))))
       go true = g .reason
       go false = number-known (viewOf c i h) h
 
@@ -277,14 +276,14 @@ module _ (c : Ratings) (i : Input) (s : Lead) (wide : 50 ≤ c .volts) (g : Good
         phase = omega (arith, leb→le q 10 (phases.next-range before (g .phase) (verdict c i s) (may c i s)));
         reason = reason-after;
         most = command-after;
-        idle = λ n. idle-after (λ w. n (rw q-is w));
+        unpowered = λ n. command-gone (λ w. n (rw q-is w));
         threshold = threshold-after;
         unkept = λ e. unkept-after (sym q-is ∙ e);
         kept = λ w. kept-after (rw q-is at w);
       }
 
 module _ (c : Ratings) (i : Input) (s : Lead) (wide : 50 ≤ c .volts) where
-  decide-good : Good c s → Good c (decide c i s)
+  pub decide-good : Good c s → Good c (decide c i s)
   decide-good g = go (start c i s) refl
     where
       go : (b : Bool) → start c i s ≡ b → Good c (decide c i s)

@@ -5,7 +5,8 @@ use Prim.Native.Nat.{ℕ, _+_, min}
 use lib.Dec.{T}
 use Rattle.frames.specs.declared.heard.StatusFrame.the-variants.{Heard, Absent}
 use Rattle.frames.specs.declared.heard.VehicleStatus.{VehicleStatus}
-use Rattle.lead.specs.Hearing.{within, hearStatus, silenceAfter, hearCar, hear}
+use Rattle.lead.specs.Names.{between}
+use Rattle.lead.specs.Hearing.{hearStatus, silenceAfter, hearCar, hear}
 use Rattle.lead.specs.declared.state.Lead.{Lead}
 use Rattle.lead.specs.declared.state.KnownStatus.{KnownStatus}
 use Rattle.lead.specs.declared.state.Input.{Input}
@@ -25,19 +26,19 @@ module _ (i : Input) (s : Lead) where
   hear-threshold = refl
 
   -- in phases 1 to 8
-  module _ (listening : T (within 1 8 (s .stage .phase))) where
+  module _ (listening : T (between 1 8 (s .stage .phase))) where
     pub hear-status : hear i s .car .status ≡ hearStatus (i .status) (s .car .status)
     unfolding hear hearCar
-    hear-status = rw (is-true (within 1 8 (s .stage .phase)) listening)
+    hear-status = rw (is-true (between 1 8 (s .stage .phase)) listening)
 
     pub hear-silence : hear i s .car .silence ≡ silenceAfter (i .status) (s .car .silence)
     unfolding hear hearCar
-    hear-silence = rw (is-true (within 1 8 (s .stage .phase)) listening)
+    hear-silence = rw (is-true (between 1 8 (s .stage .phase)) listening)
 
   -- outside 1 to 8 nothing is heard
-  pub hear-nothing : (T (within 1 8 (s .stage .phase)) → ⊥) → hear i s ≡ s
+  pub hear-nothing : (T (between 1 8 (s .stage .phase)) → ⊥) → hear i s ≡ s
   unfolding hear hearCar
-  hear-nothing n = rw (is-false (within 1 8 (s .stage .phase)) n)
+  hear-nothing n = rw (is-false (between 1 8 (s .stage .phase)) n)
 
 module _ (known : KnownStatus) (silence : ℕ) where
   pub status-heard : (f : VehicleStatus) → hearStatus (Heard f) known ≡ record { seen = true; value = f }

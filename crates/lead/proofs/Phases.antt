@@ -2,7 +2,7 @@
 use mathlib.Core.Bool.{Bool, true, false, not, _&&_, _||_}
 use Prim.Native.Nat.{ℕ, _≤_}
 use lib.Dec.{T, leb, eqb}
-use Rattle.lead.specs.Hearing.{within}
+use Rattle.lead.specs.Names.{between}
 use Rattle.lead.specs.Moves.{nextPhase}
 use Rattle.lead.specs.declared.questions.Verdict.{Verdict}
 use Rattle.lead.specs.declared.questions.Verdict.the-variants.{Pass, Urgent, Ordinary}
@@ -66,7 +66,7 @@ into-1 = everywhere into1 (λ n. tt)
 
 -- into 1 to 8 from 1 to 8, but for the start
 abbrev pub into1-8 : Test
-into1-8 p v may q = imp (within 1 8 q) (within 1 8 p || eqb p 0 && eqb q 1)
+into1-8 p v may q = imp (between 1 8 q) (between 1 8 p || eqb p 0 && eqb q 1)
 
 pub into-1-8 : Everywhere into1-8
 unfolding nextPhase
@@ -74,7 +74,7 @@ into-1-8 = everywhere into1-8 (λ n. tt)
 
 -- into 2 to 7 from 2 to 7, or from 1 by the move
 abbrev pub into2-7 : Test
-into2-7 p v may q = imp (within 2 7 q) (within 2 7 p || eqb p 1 && may)
+into2-7 p v may q = imp (between 2 7 q) (between 2 7 p || eqb p 1 && may)
 
 pub into-2-7 : Everywhere into2-7
 unfolding nextPhase
@@ -82,7 +82,7 @@ into-2-7 = everywhere into2-7 (λ n. tt)
 
 -- into 3 to 7 from 2 to 7, with no urgent stop
 abbrev pub into3-7 : Test
-into3-7 p v may q = imp (within 3 7 q) (within 2 7 p && not (isUrgent v))
+into3-7 p v may q = imp (between 3 7 q) (between 2 7 p && not (isUrgent v))
 
 pub into-3-7 : Everywhere into3-7
 unfolding nextPhase
@@ -90,7 +90,7 @@ into-3-7 = everywhere into3-7 (λ n. tt)
 
 -- into 4 to 7 from 3 to 7, and out of 3 into 4
 abbrev pub into4-7 : Test
-into4-7 p v may q = imp (within 4 7 q) (within 3 7 p && imp (eqb p 3) (eqb q 4))
+into4-7 p v may q = imp (between 4 7 q) (between 3 7 p && imp (eqb p 3) (eqb q 4))
 
 pub into-4-7 : Everywhere into4-7
 unfolding nextPhase
@@ -98,7 +98,7 @@ into-4-7 = everywhere into4-7 (λ n. tt)
 
 -- into 6 without a stop, from 6, or from 5 by the move
 abbrev pub into6 : Test
-into6 p v may q = imp (eqb q 6) (within 5 6 p && isPass v && imp (eqb p 5) may)
+into6 p v may q = imp (eqb q 6) (between 5 6 p && isPass v && imp (eqb p 5) may)
 
 pub into-6 : Everywhere into6
 unfolding nextPhase
@@ -106,7 +106,7 @@ into-6 = everywhere into6 (λ n. tt)
 
 -- into 7 from 6 and 7
 abbrev pub into7 : Test
-into7 p v may q = imp (eqb q 7) (within 6 7 p)
+into7 p v may q = imp (eqb q 7) (between 6 7 p)
 
 pub into-7 : Everywhere into7
 unfolding nextPhase
@@ -122,7 +122,7 @@ from-0 = everywhere from0 (λ n. tt)
 
 -- out of 1 into 2 to 7: into 2, without a stop, by the move
 abbrev pub from1 : Test
-from1 p v may q = imp (eqb p 1 && within 2 7 q) (eqb q 2 && isPass v && may)
+from1 p v may q = imp (eqb p 1 && between 2 7 q) (eqb q 2 && isPass v && may)
 
 pub from-1 : Everywhere from1
 unfolding nextPhase
@@ -130,7 +130,7 @@ from-1 = everywhere from1 (λ n. tt)
 
 -- out of 2 into 3 to 7: into 3, by the move
 abbrev pub from2 : Test
-from2 p v may q = imp (eqb p 2 && within 3 7 q) (eqb q 3 && may)
+from2 p v may q = imp (eqb p 2 && between 3 7 q) (eqb q 3 && may)
 
 pub from-2 : Everywhere from2
 unfolding nextPhase
@@ -138,7 +138,7 @@ from-2 = everywhere from2 (λ n. tt)
 
 -- out of 7 to 10 only from 10 to 0, by the move
 abbrev pub from7-10 : Test
-from7-10 p v may q = imp (within 7 10 p) (within 7 10 q || eqb p 10 && eqb q 0 && may)
+from7-10 p v may q = imp (between 7 10 p) (between 7 10 q || eqb p 10 && eqb q 0 && may)
 
 pub from-7-10 : Everywhere from7-10
 unfolding nextPhase
@@ -146,14 +146,14 @@ from-7-10 = everywhere from7-10 (λ n. tt)
 
 -- a stop leads into 7 to 10, an urgent one into 9 and 10
 abbrev pub stopped : Test
-stopped p v may q = imp (within 1 8 p && not (isPass v)) (within 7 10 q)
+stopped p v may q = imp (between 1 8 p && not (isPass v)) (between 7 10 q)
 
 pub stopped-into : Everywhere stopped
 unfolding nextPhase
 stopped-into = everywhere stopped (λ n. tt)
 
 abbrev pub urgentlyStopped : Test
-urgentlyStopped p v may q = imp (within 1 8 p && isUrgent v) (within 9 10 q)
+urgentlyStopped p v may q = imp (between 1 8 p && isUrgent v) (between 9 10 q)
 
 pub urgent-into : Everywhere urgentlyStopped
 unfolding nextPhase

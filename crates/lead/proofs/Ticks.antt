@@ -1,4 +1,4 @@
--- What a tick does to a lead but for the command, field by field. Assumes nothing.
+-- What `decide` does to a lead, field by field. Assumes nothing.
 use mathlib.Core.Bool.{Bool, true, false, not, cond, _&&_, _||_}
 use mathlib.Core.Path.{_≡_, refl, sym}
 use Prim.Native.Nat.{ℕ, _≤_}
@@ -6,11 +6,12 @@ use native.Mathlib.Omega.{arith}
 use lib.Dec.{T, leb, eqb, eqb→eq}
 use borrow.Author.Tests.{eq-eqb, ne-eqb}
 use Rattle.frames.specs.Heard.{signalsOf}
-use Rattle.lead.specs.Names.{handshake, locking}
-use Rattle.lead.specs.Hearing.{within, blank, hear}
-use Rattle.lead.specs.Questions.{inSteps, meterOf, isGiven, thresholdNow, viewOf, ask}
+use Rattle.lead.specs.Names.{between, handshake, locking}
+use Rattle.lead.specs.Hearing.{blank, hear}
+use Rattle.lead.specs.Questions.{dischargedVolts, residualAmperes, meterOf, isGiven, thresholdNow, viewOf, ask}
 use Rattle.lead.specs.Moves.{moves, mayMove, nextPhase, reasonAfter, ageAfter, goOn, advance, decide}
 use Rattle.lead.specs.declared.state.Lead.{Lead}
+use Rattle.lead.specs.declared.state.Car.{Car}
 use Rattle.lead.specs.declared.state.Ratings.{Ratings}
 use Rattle.lead.specs.declared.state.Input.{Input}
 use Rattle.lead.specs.declared.questions.Verdict.{Verdict}
@@ -30,35 +31,54 @@ module _ (c : Ratings) (i : Input) (s : Lead) where
   abbrev pub start : Bool
   start = eqb (s .stage .phase) 0 && eqb phaseAfter 1
 
--- What the move out of a phase wants, of a lead that has heard the tick's frames.
-pub record MoveMet (c : Ratings) (i : Input) (h : Lead) : Type 0 where
-  pub from-0 : h .stage .phase ≡ 0 → T (i .contacts .start && i .contacts .plug && not (i .contacts .emergency))
-  pub from-1 :
-      h .stage .phase ≡ 1
-      → T (h .car .battery .seen && h .car .time .seen && h .car .status .seen && i .contacts .permission && signalsOf (h .car .status .value) .enabled)
-  pub from-2 : h .stage .phase ≡ 2 → T (i .contacts .lock)
-  pub from-3 : h .stage .phase ≡ 3 → T (isGiven (i .insulation))
-  pub from-4 : h .stage .phase ≡ 4 → T (leb (meterOf (i .reading) .volts) (inSteps 10))
-  pub from-5 : h .stage .phase ≡ 5 → T (signalsOf (h .car .status .value) .closed)
-  pub from-7 : h .stage .phase ≡ 7 → T (eqb (h .command) 0 && leb (meterOf (i .reading) .amperes) (inSteps 4) || leb 30 (h .stage .age))
-  pub from-8 : h .stage .phase ≡ 8 → T (not (signalsOf (h .car .status .value) .closed) || leb 40 (h .stage .age))
-  pub from-9 : h .stage .phase ≡ 9 → T (meterOf (i .reading) .good && leb (meterOf (i .reading) .volts) (inSteps 10))
-  pub from-10 : h .stage .phase ≡ 10 → T (not (i .contacts .plug))
+-- What the move out of each phase asks for, in a tick that starts at s. `car` is what the lead knows of the car once it has heard the
+-- tick's frames.
+pub record MoveMet (i : Input) (s : Lead) (car : Car) : Type 0 where
+  pub out-of-0 : s .stage .phase ≡ 0 → T (i .contacts .start && i .contacts .plug && not (i .contacts .emergency))
+  pub out-of-1 :
+      s .stage .phase ≡ 1
+      → T (car .battery .seen && car .time .seen && car .status .seen && i .contacts .permission && signalsOf (car .status .value) .enabled)
+  pub out-of-2 : s .stage .phase ≡ 2 → T (i .contacts .lock)
+  pub out-of-3 : s .stage .phase ≡ 3 → T (isGiven (i .insulation))
+  pub out-of-4 : s .stage .phase ≡ 4 → T (leb (meterOf (i .reading) .volts) dischargedVolts)
+  pub out-of-5 : s .stage .phase ≡ 5 → T (signalsOf (car .status .value) .closed)
+  pub out-of-7 : s .stage .phase ≡ 7 → T (eqb (s .command) 0 && leb (meterOf (i .reading) .amperes) residualAmperes || leb 30 (s .stage .age))
+  pub out-of-8 : s .stage .phase ≡ 8 → T (not (signalsOf (car .status .value) .closed) || leb 40 (s .stage .age))
+  pub out-of-9 : s .stage .phase ≡ 9 → T (meterOf (i .reading) .good && leb (meterOf (i .reading) .volts) dischargedVolts)
+  pub out-of-10 : s .stage .phase ≡ 10 → T (not (i .contacts .plug))
 
-pub move-met : (c : Ratings) (i : Input) (h : Lead) → T (mayMove (viewOf c i h) h) → MoveMet c i h
+-- of a lead that has heard, so that its phase can be replaced
+met : (c : Ratings) (i : Input) (h : Lead) → T (mayMove (viewOf c i h) h) → MoveMet i h (h .car)
 unfolding mayMove moves viewOf
-move-met c i h t =
+met c i h t =
     record {
-      from-0 = λ e. rw e at t;
-      from-1 = λ e. rw e at t;
-      from-2 = λ e. rw e at t;
-      from-3 = λ e. rw e at t;
-      from-4 = λ e. rw e at t;
-      from-5 = λ e. rw e at t;
-      from-7 = λ e. rw e at t;
-      from-8 = λ e. rw e at t;
-      from-9 = λ e. rw e at t;
-      from-10 = λ e. rw e at t;
+      out-of-0 = λ e. rw e at t;
+      out-of-1 = λ e. rw e at t;
+      out-of-2 = λ e. rw e at t;
+      out-of-3 = λ e. rw e at t;
+      out-of-4 = λ e. rw e at t;
+      out-of-5 = λ e. rw e at t;
+      out-of-7 = λ e. rw e at t;
+      out-of-8 = λ e. rw e at t;
+      out-of-9 = λ e. rw e at t;
+      out-of-10 = λ e. rw e at t;
+    }
+
+pub move-met : (c : Ratings) (i : Input) (s : Lead) → T (may c i s) → MoveMet i s (hear i s .car)
+unfolding hear
+move-met c i s t =
+    let m = met c i (hear i s) t in
+    record {
+      out-of-0 = m .out-of-0;
+      out-of-1 = m .out-of-1;
+      out-of-2 = m .out-of-2;
+      out-of-3 = m .out-of-3;
+      out-of-4 = m .out-of-4;
+      out-of-5 = m .out-of-5;
+      out-of-7 = m .out-of-7;
+      out-of-8 = m .out-of-8;
+      out-of-9 = m .out-of-9;
+      out-of-10 = m .out-of-10;
     }
 
 module _ (c : Ratings) (i : Input) (s : Lead) where
@@ -66,11 +86,6 @@ module _ (c : Ratings) (i : Input) (s : Lead) where
   pub started : s .stage .phase ≡ 0 → phaseAfter c i s ≡ 1 → decide c i s ≡ blank handshake
   unfolding decide advance hear
   started e f = rw (eq-eqb _ _ e, eq-eqb _ _ f)
-
-  -- any other tick
-  pub went-on : start c i s ≡ false → decide c i s ≡ goOn (viewOf c i (hear i s)) (verdict c i s) (phaseAfter c i s) (hear i s)
-  unfolding decide advance hear
-  went-on e = rw e
 
   pub decide-phase : decide c i s .stage .phase ≡ phaseAfter c i s
   unfolding decide advance goOn hear
@@ -83,7 +98,7 @@ module _ (c : Ratings) (i : Input) (s : Lead) where
 -- What a tick leaves of a lead that it does not start, and what it makes of the rest.
 pub record WentOn (c : Ratings) (i : Input) (s : Lead) : Type 0 where
   pub car : decide c i s .car ≡ hear i s .car
-  pub command : decide c i s .command ≡ cond (within 6 7 (phaseAfter c i s)) (s .command) 0
+  pub command : decide c i s .command ≡ cond (between 6 7 (phaseAfter c i s)) (s .command) 0
   pub threshold :
       decide c i s .threshold
       ≡ cond (eqb (s .stage .phase) handshake && eqb (phaseAfter c i s) locking) (thresholdNow c (hear i s)) (s .threshold)

@@ -1,7 +1,7 @@
 -- Document 01, 'Phases': what a lead remembers, and how a tick's frames change it. Definitions only.
-use mathlib.Core.Bool.{Bool, true, false, cond, _&&_}
+use mathlib.Core.Bool.{true, false, cond}
 use Prim.Native.Nat.{ℕ, _+_, min}
-use lib.Dec.{leb, eqb}
+use lib.Dec.{eqb}
 use Rattle.frames.specs.Times.{bytesOf}
 use Rattle.frames.specs.declared.heard.BatteryFrame.{BatteryFrame}
 use Rattle.frames.specs.declared.heard.BatteryFrame.the-variants as battery
@@ -9,7 +9,7 @@ use Rattle.frames.specs.declared.heard.TimeFrame.{TimeFrame}
 use Rattle.frames.specs.declared.heard.TimeFrame.the-variants as time
 use Rattle.frames.specs.declared.heard.StatusFrame.{StatusFrame}
 use Rattle.frames.specs.declared.heard.StatusFrame.the-variants as status
-use Rattle.lead.specs.Names.{idle, handshake, noReason}
+use Rattle.lead.specs.Names.{between, idle, handshake, noReason}
 use Rattle.lead.specs.declared.state.Lead.{Lead}
 use Rattle.lead.specs.declared.state.Car.{Car}
 use Rattle.lead.specs.declared.state.KnownBattery.{KnownBattery}
@@ -17,11 +17,7 @@ use Rattle.lead.specs.declared.state.KnownTime.{KnownTime}
 use Rattle.lead.specs.declared.state.KnownStatus.{KnownStatus}
 use Rattle.lead.specs.declared.state.Input.{Input}
 
--- a phase in a bracket of the document
-abbrev pub within : ℕ → ℕ → ℕ → Bool
-within first last p = leb first p && leb p last
-
--- a lead in a phase that remembers nothing
+-- a lead that remembers nothing, in phase p
 abbrev pub blank : ℕ → Lead
 blank p =
     record {
@@ -63,7 +59,7 @@ silenceAfter status.Absent silence = min (silence + 1) 255
 -- "Silence is counted in phases 1–8 only."
 unfoldable pub hearCar : ℕ → Input → Car → Car
 hearCar p i car =
-    cond (within 1 8 p)
+    cond (between 1 8 p)
     (record {
       battery = cond (eqb p handshake) (hearBattery (i .battery) (car .battery)) (car .battery);
       time = cond (eqb p handshake) (hearTime (i .time) (car .time)) (car .time);

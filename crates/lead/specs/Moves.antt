@@ -4,9 +4,9 @@ use mathlib.Core.List.{List, [], _∷_}
 use Prim.Native.Nat.{ℕ, _+_, min}
 use lib.Dec.{leb, eqb}
 use lib.ListN.{getD}
-use Rattle.lead.specs.Names.{idle, handshake, locking, noReason}
-use Rattle.lead.specs.Hearing.{within, blank, hear}
-use Rattle.lead.specs.Questions.{inSteps, viewOf, ask, numberOf}
+use Rattle.lead.specs.Names.{between, idle, handshake, locking, noReason}
+use Rattle.lead.specs.Hearing.{blank, hear}
+use Rattle.lead.specs.Questions.{dischargedVolts, residualAmperes, viewOf, ask, numberOf}
 use Rattle.lead.specs.declared.state.Lead.{Lead}
 use Rattle.lead.specs.declared.state.Ratings.{Ratings}
 use Rattle.lead.specs.declared.state.Input.{Input}
@@ -24,19 +24,19 @@ moves v s =
     -- "2 to 3: lock contact closed."
     ∷ v .contacts .lock
     -- "3 to 4: resistance given."
-    ∷ v .tested
+    ∷ v .given
     -- "4 to 5: connector volts at most 10."
-    ∷ leb (v .meter .volts) (inSteps 10)
+    ∷ leb (v .meter .volts) dischargedVolts
     -- "5 to 6: contactor closed."
     ∷ v .signals .closed
     -- phase 6 has no move
     ∷ false
     -- "7 to 8: command 0 and amperes at most 4, or age 30 or more."
-    ∷ (eqb (s .command) 0 && leb (v .meter .amperes) (inSteps 4) || leb 30 (s .stage .age))
+    ∷ (eqb (s .command) 0 && leb (v .meter .amperes) residualAmperes || leb 30 (s .stage .age))
     -- "8 to 9: contactor open, or age 40 or more"
     ∷ (not (v .signals .closed) || leb 40 (s .stage .age))
     -- "9 to 10: good reading, connector volts at most 10."
-    ∷ (v .meter .good && leb (v .meter .volts) (inSteps 10))
+    ∷ (v .meter .good && leb (v .meter .volts) dischargedVolts)
     -- "10 to 0: plug open."
     ∷ not (v .contacts .plug)
     ∷ []
@@ -44,7 +44,7 @@ moves v s =
 unfoldable pub mayMove : View → Lead → Bool
 mayMove v s = getD (moves v s) (s .stage .phase) false
 
--- the phase that the move out of each phase leads to
+-- The phase that the move out of each phase leads to, phases 0 to 10. In these three tables a phase that has no such move or stop stays.
 abbrev pub moveTo : List ℕ
 moveTo = 1 ∷ 2 ∷ 3 ∷ 4 ∷ 5 ∷ 6 ∷ 6 ∷ 8 ∷ 9 ∷ 10 ∷ 0 ∷ []
 
@@ -64,7 +64,7 @@ nextPhase p (Ordinary number) may = getD ordinaryTo p 0
 
 -- "In 7 and 8 … the reason recorded first remains, a 0 in a state handed in too."
 unfoldable pub reasonAfter : ℕ → ℕ → Verdict → ℕ
-reasonAfter p reason verdict = cond (within 7 8 p || eqb (numberOf verdict) noReason) reason (numberOf verdict)
+reasonAfter p reason verdict = cond (between 7 8 p || eqb (numberOf verdict) noReason) reason (numberOf verdict)
 
 -- "A move or a stop sets age to 0; staying adds 1, up to 4,294,967,295."
 unfoldable pub ageAfter : ℕ → ℕ → ℕ → ℕ
@@ -80,7 +80,7 @@ goOn v verdict q s =
             reason = reasonAfter (s .stage .phase) (s .stage .reason) verdict;
             age = ageAfter (s .stage .phase) q (s .stage .age);
           };
-      command = cond (within 6 7 q) (s .command) 0;
+      command = cond (between 6 7 q) (s .command) 0;
       threshold = cond (eqb (s .stage .phase) handshake && eqb q locking) (v .threshold) (s .threshold);
       car = s .car;
     }

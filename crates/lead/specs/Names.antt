@@ -1,11 +1,17 @@
 -- Document 01, 'Stop questions' and 'Phases': names for its numbers. Definitions only.
+use mathlib.Core.Bool.{Bool, _&&_}
 use Prim.Native.Nat.{ℕ}
+use lib.Dec.{leb}
+
+-- a number in a bracket of the document, ends included
+abbrev pub between : ℕ → ℕ → ℕ → Bool
+between first last n = leb first n && leb n last
 
 -- Phases. The document gives numbers; the names say what happens in them.
 abbrev pub idle : ℕ
 idle = 0
 
--- the car says who it is, the car and the post consent
+-- the car's first frames, its permission, and the threshold
 abbrev pub handshake : ℕ
 handshake = 1
 

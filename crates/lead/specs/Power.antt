@@ -16,7 +16,8 @@ wanted c s =
 unfoldable pub wantedWatts : Ratings → Lead → ℕ
 wantedWatts c s = wanted c s * s .threshold
 
--- "Each new command is that smaller number [of want and level] divided by the threshold, rounded down; outside 6 and 7 it is 0", as the want is
+-- "Each new command is that smaller number", of want and level, "divided by the threshold, rounded down; outside 6 and 7 it is 0":
+-- there the want is 0. A lead without a threshold gets 0, as x / 0 is 0.
 unfoldable pub commanded : Ratings → ℕ → Lead → Lead
 commanded c level s =
     record { stage = s .stage; command = min (wantedWatts c s) level / s .threshold; threshold = s .threshold; car = s .car }

@@ -1,7 +1,7 @@
 -- Document 01, 'Stop questions': the nineteen questions and the first no. Definitions only.
 use mathlib.Core.Bool.{Bool, true, false, not, cond, _&&_, _||_}
 use mathlib.Core.List.{List, [], _∷_}
-use Prim.Native.Nat.{ℕ, _+_, _*_, min}
+use Prim.Native.Nat.{ℕ, _+_, _-_, _*_, min}
 use lib.Dec.{leb, ltb, eqb}
 use lib.ListN.{getD}
 use Rattle.readings.specs.Value.{stepsPerUnit}
@@ -12,8 +12,8 @@ use Rattle.readings.specs.declared.Judged.{Judged}
 use Rattle.readings.specs.declared.Judged.the-variants.{Good, Bad}
 use Rattle.frames.specs.Times.{chargingTicks}
 use Rattle.frames.specs.Heard.{signalsOf}
-use Rattle.lead.specs.Names.{handshake, noReason, emergencyStop, unplugged, groundFault, permissionOpen, badReading, overvoltage, overcurrent, unlocked, carSilent, carFault, incompatibleVoltage, notInPark, notEnabled, carStop, contactorOpen, stopButton, lowInsulation, phaseTimeout, chargingTimeOver}
-use Rattle.lead.specs.Hearing.{within, hear}
+use Rattle.lead.specs.Names.{between, handshake, noReason, emergencyStop, unplugged, groundFault, permissionOpen, badReading, overvoltage, overcurrent, unlocked, carSilent, carFault, incompatibleVoltage, notInPark, notEnabled, carStop, contactorOpen, stopButton, lowInsulation, phaseTimeout, chargingTimeOver}
+use Rattle.lead.specs.Hearing.{hear}
 use Rattle.lead.specs.declared.state.Lead.{Lead}
 use Rattle.lead.specs.declared.state.Ratings.{Ratings}
 use Rattle.lead.specs.declared.state.Input.{Input}
@@ -24,8 +24,20 @@ use Rattle.lead.specs.declared.questions.Verdict.{Verdict}
 use Rattle.lead.specs.declared.questions.Verdict.the-variants.{Pass, Urgent, Ordinary}
 
 -- whole volts or amperes in the steps that readings are judged in
-abbrev pub inSteps : ℕ → ℕ
-inSteps units = stepsPerUnit * units
+abbrev pub stepsOf : ℕ → ℕ
+stepsOf units = stepsPerUnit * units
+
+-- "rated + 5", of question 17
+abbrev pub mostAmperes : ℕ → ℕ
+mostAmperes rated = stepsOf (rated + 5)
+
+-- the 10 V of the moves out of 4 and 9
+abbrev pub dischargedVolts : ℕ
+dischargedVolts = stepsOf 10
+
+-- the 4 A of the move out of 7
+abbrev pub residualAmperes : ℕ
+residualAmperes = stepsOf 4
 
 -- the figures of a good reading
 abbrev pub meterOf : Judged → Meter
@@ -44,7 +56,7 @@ thresholdNow c s = cond (eqb (s .stage .phase) handshake) (min (c .volts) (s .ca
 abbrev pub ticksAllowed : List ℕ
 ticksAllowed = 0 ∷ 100 ∷ 20 ∷ 150 ∷ 50 ∷ 100 ∷ 0 ∷ 0 ∷ 0 ∷ 0 ∷ 0 ∷ []
 
--- what the questions and the moves look at, of a lead that has heard the tick's frames
+-- what the questions and the moves look at beside the lead's own numbers, of a lead that has heard the tick's frames
 unfoldable pub viewOf : Ratings → Input → Lead → View
 viewOf c i s =
     record {
@@ -53,7 +65,7 @@ viewOf c i s =
       signals = signalsOf (s .car .status .value);
       rated = c .amperes;
       threshold = thresholdNow c s;
-      tested = isGiven (i .insulation);
+      given = isGiven (i .insulation);
       insulated = insulated (thresholdNow c s) (i .insulation);
       limit = getD ticksAllowed (s .stage .phase) 0;
       time = chargingTicks (s .car .time .value);
@@ -84,9 +96,9 @@ questions v s =
     -- "15 Reading good? (3–7)"
     ∷ urgent badReading 3 7 (v .meter .good)
     -- "16 Connector volts at most the threshold? (5–7)"
-    ∷ urgent overvoltage 5 7 (leb (v .meter .volts) (inSteps (v .threshold)))
+    ∷ urgent overvoltage 5 7 (leb (v .meter .volts) (stepsOf (v .threshold)))
     -- "17 Amperes at most rated + 5? (5–7)"
-    ∷ urgent overcurrent 5 7 (leb (v .meter .amperes) (inSteps (v .rated + 5)))
+    ∷ urgent overcurrent 5 7 (leb (v .meter .amperes) (mostAmperes (v .rated)))
     -- "18 Lock contact closed? (3–7)"
     ∷ urgent unlocked 3 7 (v .contacts .lock)
     -- "19 Silence below 10? (2–6)"
@@ -117,7 +129,7 @@ questions v s =
 
 -- asked in the phase, and the answer is no
 abbrev pub isNo : ℕ → Question → Bool
-isNo p q = within (q .2) (q .3) p && not (q .4)
+isNo p q = between (q .2) (q .3) p && not (q .4)
 
 abbrev pub stopOf : Question → Verdict
 stopOf q = cond (q .1) (Urgent (q .0)) (Ordinary (q .0))
@@ -136,6 +148,10 @@ numberOf Pass = noReason
 numberOf (Urgent number) = number
 numberOf (Ordinary number) = number
 
--- the questions as a tick asks them, and its stop
-abbrev pub asked : Ratings → Input → Lead → List Question
-asked c i s = questions (viewOf c i (hear i s)) (hear i s)
+-- past the last question: one that never gets a no
+abbrev pub noQuestion : Question
+noQuestion = ordinary noReason 0 0 true
+
+-- question n is asked in the tick and gets a no; the rows stand in the order of their numbers
+unfoldable pub gotNo : Ratings → Input → Lead → ℕ → Bool
+gotNo c i s n = leb 11 n && isNo (s .stage .phase) (getD (questions (viewOf c i (hear i s)) (hear i s)) (n - 11) noQuestion)

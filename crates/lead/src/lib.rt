@@ -11,6 +11,10 @@ mod tables;
 
 pub use names::Phase;
 pub use names::Reason;
+pub use questions::Meter;
+pub use questions::Question;
+pub use questions::Verdict;
+pub use questions::View;
 pub use state::Car;
 pub use state::Contacts;
 pub use state::Input;

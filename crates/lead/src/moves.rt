@@ -14,16 +14,16 @@ ghost use mathlib.Core.Path.{_≡_};
 ghost use mathlib.Core.Bool.{cond};
 ghost use Rattle.lead.specs.Moves.{moves, mayMove, nextPhase, reasonAfter, ageAfter, goOn, advance, decide};
 
-// Where each phase leads, 0 to 10: by its move, by an urgent stop, by another.
-const MOVE_TO: [u8; 11] = [1, 2, 3, 4, 5, 6, 6, 8, 9, 10, 0];
+// Where each phase leads, 0 to 10: by its move, by an urgent stop, by another. A phase without such a move or stop stays.
+const MOVE_TO: [u8; Phase::COUNT] = [1, 2, 3, 4, 5, 6, 6, 8, 9, 10, 0];
 
-const URGENT_TO: [u8; 11] = [0, 10, 9, 9, 9, 9, 9, 9, 9, 9, 10];
+const URGENT_TO: [u8; Phase::COUNT] = [0, 10, 9, 9, 9, 9, 9, 9, 9, 9, 10];
 
-const ORDINARY_TO: [u8; 11] = [0, 10, 8, 8, 8, 8, 7, 7, 8, 9, 10];
+const ORDINARY_TO: [u8; Phase::COUNT] = [0, 10, 8, 8, 8, 8, 7, 7, 8, 9, 10];
 
 impl Lead {
     // What each phase's move wants, phases 0 to 10.
-    fn moves(self, view: View) -> [bool; 11]
+    fn moves(self, view: View) -> [bool; Phase::COUNT]
         ensures { λ r. ⌜ r ≡ moves view self ⌝ }
     {
         let contacts = view.contacts;
@@ -44,7 +44,7 @@ impl Lead {
             // 2 to 3
             contacts.lock,
             // 3 to 4
-            view.tested,
+            view.given,
             // 4 to 5
             meter.volts <= step * 10,
             // 5 to 6
@@ -68,7 +68,7 @@ impl Lead {
         holds_at(self.moves(view), self.stage.phase)
     }
 
-    // Goes on into a phase.
+    // A lead that is not started: its threshold is kept on the move to 2, outside 6 and 7 its command is 0.
     fn go_on(mut self, view: View, verdict: Verdict, phase: u8) -> Lead
         ensures { λ r. ⌜ r ≡ goOn view verdict phase self ⌝ }
     {

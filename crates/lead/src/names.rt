@@ -5,7 +5,7 @@ pub struct Phase;
 impl Phase {
     pub const IDLE: u8 = 0;
 
-    // The car says who it is, car and post consent.
+    // The car's first frames, its permission, and the threshold.
     pub const HANDSHAKE: u8 = 1;
 
     pub const LOCKING: u8 = 2;
@@ -28,6 +28,8 @@ impl Phase {
     pub const FINAL_DISCHARGE: u8 = 9;
 
     pub const ENDED: u8 = 10;
+
+    pub const COUNT: usize = 11;
 }
 
 // The number of the stop question that got a no.

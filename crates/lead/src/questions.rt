@@ -16,29 +16,29 @@ ghost use Prim.Native.Nat.{min};
 ghost use Rattle.lead.specs.Questions.{meterOf, isGiven, thresholdNow, viewOf, questions, isNo, stopOf, firstNo, ask, numberOf};
 
 // The figures of a good reading, in steps.
-pub(crate) struct Meter {
-    pub(crate) good: bool,
-    pub(crate) volts: u32,
-    pub(crate) amperes: u32,
+pub struct Meter {
+    pub good: bool,
+    pub volts: u32,
+    pub amperes: u32,
 }
 
-// What the questions and the moves look at: contacts, meter, what H'102's bits say, rated amperes, the threshold voltage
-// (worked out in phase 1, kept in the later ones), whether an insulation resistance is given and high enough,
-// the ticks allowed in the phase, and the charging time in ticks.
-pub(crate) struct View {
-    pub(crate) contacts: Contacts,
-    pub(crate) meter: Meter,
-    pub(crate) signals: VehicleSignals,
-    pub(crate) rated: u8,
-    pub(crate) threshold: u16,
-    pub(crate) tested: bool,
-    pub(crate) insulated: bool,
-    pub(crate) limit: u32,
-    pub(crate) time: u32,
+// What the questions and the moves look at beside the lead's own numbers: contacts, meter, what H'102's bits say, rated
+// amperes, the threshold voltage (worked out in phase 1, kept in the later ones), whether an insulation resistance is given
+// and high enough, the ticks allowed in the phase, and the charging time in ticks.
+pub struct View {
+    pub contacts: Contacts,
+    pub meter: Meter,
+    pub signals: VehicleSignals,
+    pub rated: u8,
+    pub threshold: u16,
+    pub given: bool,
+    pub insulated: bool,
+    pub limit: u32,
+    pub time: u32,
 }
 
 // No stop, or one with its reason.
-pub(crate) enum Verdict {
+pub enum Verdict {
     Pass,
     Urgent(u8),
     Ordinary(u8),
@@ -46,7 +46,7 @@ pub(crate) enum Verdict {
 
 // The reason that a no gives and whether it is urgent, the first and the last phase in which it is asked, and whether
 // the answer is yes.
-struct Question(u8, bool, u8, u8, bool);
+pub struct Question(pub u8, pub bool, pub u8, pub u8, pub bool);
 
 const URGENT: bool = true;
 
@@ -103,7 +103,7 @@ impl Question {
         (self.2 <= phase) & (phase <= self.3) & !self.4
     }
 
-    // What a no makes of it.
+    // The verdict where it gets the first no.
     fn stop(self) -> Verdict
         ensures { λ r. ⌜ r ≡ stopOf self ⌝ }
     {
@@ -154,7 +154,7 @@ impl Lead {
             signals: status.signals(),
             rated: ratings.amperes,
             threshold,
-            tested: is_given(insulation),
+            given: is_given(insulation),
             insulated: is_insulated(threshold, insulation),
             limit: at_phase(Lead::TICKS_ALLOWED, self.stage.phase) as u32,
             time: time.ticks().0,
@@ -162,7 +162,7 @@ impl Lead {
     }
 
     // Question 28, by phase.
-    const TICKS_ALLOWED: [u8; 11] = [0, 100, 20, 150, 50, 100, 0, 0, 0, 0, 0];
+    const TICKS_ALLOWED: [u8; Phase::COUNT] = [0, 100, 20, 150, 50, 100, 0, 0, 0, 0, 0];
 
     // Of a lead that has heard the tick's frames.
     fn questions(self, view: View) -> [Question; Question::COUNT]
@@ -172,8 +172,9 @@ impl Lead {
         let meter = view.meter;
         let signals = view.signals;
         let age = self.stage.age;
-        let ceiling = (STEPS_PER_UNIT as u32) * (view.threshold as u32);
-        let most = (STEPS_PER_UNIT as u32) * ((view.rated as u32) + 5);
+        let step = STEPS_PER_UNIT as u32;
+        let volts_fit = meter.volts <= step * (view.threshold as u32);
+        let amperes_fit = meter.amperes <= step * ((view.rated as u32) + 5);
         let maximum = self.car.battery.maximum;
         let target = self.car.status.value.target;
         let in_range = (50 <= maximum) & (50 <= target) & (target <= view.threshold);
@@ -184,8 +185,8 @@ impl Lead {
             Question(Reason::GROUND_FAULT, URGENT, 1, 8, !contacts.leakage),
             Question(Reason::PERMISSION_OPEN, URGENT, 2, 7, contacts.permission),
             Question(Reason::BAD_READING, URGENT, 3, 7, meter.good),
-            Question(Reason::OVERVOLTAGE, URGENT, 5, 7, meter.volts <= ceiling),
-            Question(Reason::OVERCURRENT, URGENT, 5, 7, meter.amperes <= most),
+            Question(Reason::OVERVOLTAGE, URGENT, 5, 7, volts_fit),
+            Question(Reason::OVERCURRENT, URGENT, 5, 7, amperes_fit),
             Question(Reason::UNLOCKED, URGENT, 3, 7, contacts.lock),
             Question(Reason::CAR_SILENT, ORDINARY, 2, 6, self.car.silence < 10),
             Question(Reason::CAR_FAULT, ORDINARY, 1, 6, signals.clear),

@@ -43,17 +43,19 @@ pub struct Car {
     pub silence: u8,
 }
 
-// The newest H'100, H'101 and H'102, and whether one was seen since the start. Maximum battery voltage in volts.
+// H'100: maximum battery voltage in volts. Here as below, `seen` says whether one was heard since the start.
 pub struct KnownBattery {
     pub seen: bool,
     pub maximum: u16,
 }
 
+// H'101.
 pub struct KnownTime {
     pub seen: bool,
     pub value: ChargingTime,
 }
 
+// H'102.
 pub struct KnownStatus {
     pub seen: bool,
     pub value: VehicleStatus,
@@ -81,7 +83,7 @@ pub struct Input {
 }
 
 impl Lead {
-    // A lead in a phase that remembers nothing.
+    // A lead that remembers nothing, in some phase.
     pub(crate) fn blank(phase: u8) -> Lead
         ensures { λ r. ⌜ r ≡ blank phase ⌝ }
     {

@@ -1,18 +1,19 @@
 // Tables by phase. Past their end they hold 0 and false.
+use super::names::Phase;
 ghost use mathlib.Core.Path.{_≡_};
 ghost use mathlib.Core.Bool.{false};
 ghost use lib.ListN.{getD};
 
-pub(crate) fn at_phase(table: [u8; 11], phase: u8) -> u8
+pub(crate) fn at_phase(table: [u8; Phase::COUNT], phase: u8) -> u8
     ensures { λ r. ⌜ r ≡ getD table phase 0 ⌝ }
 {
     let at = phase as usize;
-    if at < 11 { table[at] } else { 0 }
+    if at < Phase::COUNT { table[at] } else { 0 }
 }
 
-pub(crate) fn holds_at(table: [bool; 11], phase: u8) -> bool
+pub(crate) fn holds_at(table: [bool; Phase::COUNT], phase: u8) -> bool
     ensures { λ r. ⌜ r ≡ getD table phase false ⌝ }
 {
     let at = phase as usize;
-    if at < 11 { table[at] } else { false }
+    if at < Phase::COUNT { table[at] } else { false }
 }

@@ -6,13 +6,13 @@ use Prim.Native.Nat.{ℕ}
 use lib.ListN.{length, length-append}
 use Rattle.readings.specs.declared.Judged.{Judged}
 use Rattle.frames.specs.Sent.{offerBytes, reportBytes}
-use Rattle.lead.specs.Hearing.{within}
+use Rattle.lead.specs.Names.{between}
 use Rattle.lead.specs.declared.state.Lead.{Lead}
 use Rattle.lead.specs.declared.state.Ratings.{Ratings}
 use Rattle.lead_records.specs.Outputs.{outputSize, offerOf, reportOf, whileSending, shownBytes, outputOf}
 
 sent-length : (p : ℕ) (frame : List ℕ) → length frame ≡ 8 → length (whileSending p frame) ≡ 8
-sent-length p frame e = go (within 1 9 p)
+sent-length p frame e = go (between 1 9 p)
   where
     go : (b : Bool) → length (cond b frame (0 ∷ 0 ∷ 0 ∷ 0 ∷ 0 ∷ 0 ∷ 0 ∷ 0 ∷ [])) ≡ 8
     go true = e

@@ -14,8 +14,7 @@ use Rattle.frames.specs.declared.times.ChargingTime.{ChargingTime}
 use Rattle.frames.specs.declared.sent.ChargerFlags.{ChargerFlags}
 use Rattle.frames.specs.declared.sent.Offer.{Offer}
 use Rattle.frames.specs.declared.sent.Report.{Report}
-use Rattle.lead.specs.Names.{insulationTest, charging, groundFault, badReading, unlocked, carSilent, incompatibleVoltage, lowInsulation, phaseTimeout}
-use Rattle.lead.specs.Hearing.{within}
+use Rattle.lead.specs.Names.{between, insulationTest, charging, groundFault, badReading, unlocked, carSilent, incompatibleVoltage, lowInsulation, phaseTimeout}
 use Rattle.lead.specs.declared.state.Lead.{Lead}
 use Rattle.lead.specs.declared.state.Ratings.{Ratings}
 
@@ -24,8 +23,8 @@ abbrev pub outputSize : ℕ
 outputSize = 24
 
 -- "3 bits d1 (phases 1–8), d2 (5–8), lock (2–9), frames to be sent (1–9)"
-unfoldable pub relays : ℕ → ℕ
-relays p = byteOf (within 1 8 p ∷ within 5 8 p ∷ within 2 9 p ∷ within 1 9 p ∷ [])
+unfoldable pub controls : ℕ → ℕ
+controls p = byteOf (between 1 8 p ∷ between 5 8 p ∷ between 2 9 p ∷ between 1 9 p ∷ [])
 
 -- "4–5 test volts, the threshold in phase 3, else 0"
 unfoldable pub testVolts : Lead → ℕ
@@ -39,8 +38,8 @@ offerOf c s = record { volts = c .volts; amperes = c .amperes; threshold = s .th
 unfoldable pub flagsOf : Bool → ℕ → ℕ → ChargerFlags
 flagsOf lock p reason =
     record {
-      charging = within 6 7 p;
-      malfunction = eqb reason groundFault || within badReading unlocked reason || eqb reason lowInsulation;
+      charging = between 6 7 p;
+      malfunction = eqb reason groundFault || between badReading unlocked reason || eqb reason lowInsulation;
       locked = lock;
       incompatible = eqb reason incompatibleVoltage;
       system = eqb reason carSilent || eqb reason phaseTimeout;
@@ -50,7 +49,7 @@ flagsOf lock p reason =
 -- "Remaining time, in phases 2–6, is the charging time, in phase 6 less the age after the tick … In other phases both are 0."
 unfoldable pub remainingOf : Lead → ChargingTime
 remainingOf s =
-    cond (within 2 6 (s .stage .phase))
+    cond (between 2 6 (s .stage .phase))
     (remainingTime (s .car .time .value) (cond (eqb (s .stage .phase) charging) (s .stage .age) 0))
     (bytesOf 0 0)
 
@@ -75,12 +74,12 @@ reportOf lock reading s =
 
 -- "both zero outside 1–9"
 abbrev pub whileSending : ℕ → List ℕ → List ℕ
-whileSending p frame = cond (within 1 9 p) frame (0 ∷ 0 ∷ 0 ∷ 0 ∷ 0 ∷ 0 ∷ 0 ∷ 0 ∷ [])
+whileSending p frame = cond (between 1 9 p) frame (0 ∷ 0 ∷ 0 ∷ 0 ∷ 0 ∷ 0 ∷ 0 ∷ 0 ∷ [])
 
 -- "0 phase; 1 reason; 2 command; 3 bits …; 4–5 test volts …; 6–7 zero"
 unfoldable pub shownBytes : Lead → List ℕ
 shownBytes s =
-    s .stage .phase ∷ s .stage .reason ∷ s .command ∷ relays (s .stage .phase) ∷ lowByte (testVolts s) ∷ highByte (testVolts s) ∷ 0 ∷ 0 ∷ []
+    s .stage .phase ∷ s .stage .reason ∷ s .command ∷ controls (s .stage .phase) ∷ lowByte (testVolts s) ∷ highByte (testVolts s) ∷ 0 ∷ 0 ∷ []
 
 -- "H'108; H'109"
 unfoldable pub outputOf : Ratings → Bool → Judged → Lead → List ℕ

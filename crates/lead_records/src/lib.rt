@@ -5,4 +5,4 @@ mod states;
 
 pub use inputs::InputRecord;
 pub use outputs::OutputRecord;
-pub use states::LeadRecord;
+pub use states::StateRecord;

@@ -18,7 +18,7 @@ use readings::whole_units;
 ghost use mathlib.Core.Path.{_≡_};
 ghost use mathlib.Core.List.{_++_};
 ghost use Rattle.frames.specs.Sent.{offerBytes, reportBytes};
-ghost use Rattle.lead_records.specs.Outputs.{relays, testVolts, offerOf, flagsOf, remainingOf, shownVolts, shownAmperes, reportOf, whileSending, shownBytes, outputOf};
+ghost use Rattle.lead_records.specs.Outputs.{controls, testVolts, offerOf, flagsOf, remainingOf, shownVolts, shownAmperes, reportOf, whileSending, shownBytes, outputOf};
 
 pub struct OutputRecord;
 
@@ -26,8 +26,8 @@ impl OutputRecord {
     pub const SIZE: usize = 24;
 
     // The relays d1 and d2, the lock, and whether frames are to be sent, from bit 0 on.
-    fn relays(phase: u8) -> u8
-        ensures { λ r. ⌜ r ≡ relays phase ⌝ }
+    fn controls(phase: u8) -> u8
+        ensures { λ r. ⌜ r ≡ controls phase ⌝ }
     {
         let d1 = (Phase::HANDSHAKE <= phase) & (phase <= Phase::WELD_CHECK);
         let d2 = (Phase::CONTACTOR_CLOSING <= phase) & (phase <= Phase::WELD_CHECK);
@@ -48,11 +48,11 @@ impl OutputRecord {
     fn flags(lock: bool, phase: u8, reason: u8) -> ChargerFlags
         ensures { λ r. ⌜ r ≡ flagsOf lock phase reason ⌝ }
     {
-        let measured = (Reason::BAD_READING <= reason) & (reason <= Reason::UNLOCKED);
+        let electrical = (Reason::BAD_READING <= reason) & (reason <= Reason::UNLOCKED);
         ChargerFlags {
             charging: (Phase::CHARGING <= phase) & (phase <= Phase::RAMP_DOWN),
             malfunction: (reason == Reason::GROUND_FAULT)
-                | measured
+                | electrical
                 | (reason == Reason::LOW_INSULATION),
             locked: lock,
             incompatible: reason == Reason::INCOMPATIBLE_VOLTAGE,
@@ -129,7 +129,7 @@ impl OutputRecord {
         if sending { frame } else { [0u8; 8] }
     }
 
-    // Phase, reason, command, relays and test volts.
+    // Phase, reason, command, relays and lock, test volts.
     fn shown(lead: Lead) -> [u8; 8]
         ensures { λ r. ⌜ r ≡ shownBytes lead ⌝ }
     {
@@ -138,7 +138,7 @@ impl OutputRecord {
             lead.stage.phase,
             lead.stage.reason,
             lead.command,
-            OutputRecord::relays(lead.stage.phase),
+            OutputRecord::controls(lead.stage.phase),
             low_byte(test),
             high_byte(test),
             0,

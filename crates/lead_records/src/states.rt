@@ -22,9 +22,9 @@ ghost use lib.ListN.{length, drop};
 ghost use Rattle.lead_records.specs.States.{stateSize, decode, seenByte, encode, allZero, goodState};
 
 // The state's size and the places in it.
-pub struct LeadRecord;
+pub struct StateRecord;
 
-impl LeadRecord {
+impl StateRecord {
     pub const SIZE: usize = 32;
 
     const PHASE: usize = 0;
@@ -73,13 +73,13 @@ impl LeadRecord {
     {
         Lead {
             stage: Stage {
-                phase: bytes[LeadRecord::PHASE],
-                reason: bytes[LeadRecord::REASON],
-                age: u32_at(bytes, LeadRecord::AGE),
+                phase: bytes[StateRecord::PHASE],
+                reason: bytes[StateRecord::REASON],
+                age: u32_at(bytes, StateRecord::AGE),
             },
-            command: bytes[LeadRecord::COMMAND],
-            threshold: u16_at(bytes, LeadRecord::THRESHOLD),
-            car: LeadRecord::read_car(bytes),
+            command: bytes[StateRecord::COMMAND],
+            threshold: u16_at(bytes, StateRecord::THRESHOLD),
+            car: StateRecord::read_car(bytes),
         }
     }
 
@@ -87,33 +87,33 @@ impl LeadRecord {
         requires { ⌜ length (now bytes) ≡ stateSize ⌝ }
         ensures { λ r. ⌜ r ≡ decode (now (bytes .entry)) .car ⌝ }
     {
-        let seen = bytes[LeadRecord::SEEN];
+        let seen = bytes[StateRecord::SEEN];
         Car {
             battery: KnownBattery {
-                seen: seen / LeadRecord::SEEN_BATTERY % 2 == 1,
-                maximum: u16_at(bytes, LeadRecord::MAXIMUM),
+                seen: seen / StateRecord::SEEN_BATTERY % 2 == 1,
+                maximum: u16_at(bytes, StateRecord::MAXIMUM),
             },
             time: KnownTime {
-                seen: seen / LeadRecord::SEEN_TIME % 2 == 1,
+                seen: seen / StateRecord::SEEN_TIME % 2 == 1,
                 value: ChargingTime {
-                    tens: TensOfSeconds(bytes[LeadRecord::TENS]),
-                    minutes: Minutes(bytes[LeadRecord::MINUTES]),
+                    tens: TensOfSeconds(bytes[StateRecord::TENS]),
+                    minutes: Minutes(bytes[StateRecord::MINUTES]),
                 },
             },
             status: KnownStatus {
-                seen: seen / LeadRecord::SEEN_STATUS % 2 == 1,
+                seen: seen / StateRecord::SEEN_STATUS % 2 == 1,
                 value: VehicleStatus {
-                    target: u16_at(bytes, LeadRecord::TARGET),
-                    request: bytes[LeadRecord::REQUEST],
-                    faults: bytes[LeadRecord::FAULTS],
-                    flags: bytes[LeadRecord::FLAGS],
+                    target: u16_at(bytes, StateRecord::TARGET),
+                    request: bytes[StateRecord::REQUEST],
+                    faults: bytes[StateRecord::FAULTS],
+                    flags: bytes[StateRecord::FLAGS],
                 },
             },
-            silence: bytes[LeadRecord::SILENCE],
+            silence: bytes[StateRecord::SILENCE],
         }
     }
 
-    pub fn bytes(lead: Lead) -> [u8; LeadRecord::SIZE]
+    pub fn bytes(lead: Lead) -> [u8; StateRecord::SIZE]
         ensures { λ r. ⌜ r ≡ encode lead ⌝ }
     {
         let stage = lead.stage;
@@ -122,27 +122,27 @@ impl LeadRecord {
         let time = car.time.value;
         let low = low_half(stage.age);
         let high = high_half(stage.age);
-        let mut bytes = [0u8; LeadRecord::SIZE];
-        bytes[LeadRecord::PHASE] = stage.phase;
-        bytes[LeadRecord::REASON] = stage.reason;
-        bytes[LeadRecord::COMMAND] = lead.command;
-        bytes[LeadRecord::REQUEST] = status.request;
-        bytes[LeadRecord::FAULTS] = status.faults;
-        bytes[LeadRecord::FLAGS] = status.flags;
-        bytes[LeadRecord::SILENCE] = car.silence;
-        bytes[LeadRecord::SEEN] = LeadRecord::seen(car);
-        bytes[LeadRecord::THRESHOLD] = low_byte(lead.threshold);
-        bytes[LeadRecord::THRESHOLD + 1] = high_byte(lead.threshold);
-        bytes[LeadRecord::MAXIMUM] = low_byte(car.battery.maximum);
-        bytes[LeadRecord::MAXIMUM + 1] = high_byte(car.battery.maximum);
-        bytes[LeadRecord::TARGET] = low_byte(status.target);
-        bytes[LeadRecord::TARGET + 1] = high_byte(status.target);
-        bytes[LeadRecord::TENS] = time.tens.0;
-        bytes[LeadRecord::MINUTES] = time.minutes.0;
-        bytes[LeadRecord::AGE] = low_byte(low);
-        bytes[LeadRecord::AGE + 1] = high_byte(low);
-        bytes[LeadRecord::AGE + 2] = low_byte(high);
-        bytes[LeadRecord::AGE + 3] = high_byte(high);
+        let mut bytes = [0u8; StateRecord::SIZE];
+        bytes[StateRecord::PHASE] = stage.phase;
+        bytes[StateRecord::REASON] = stage.reason;
+        bytes[StateRecord::COMMAND] = lead.command;
+        bytes[StateRecord::REQUEST] = status.request;
+        bytes[StateRecord::FAULTS] = status.faults;
+        bytes[StateRecord::FLAGS] = status.flags;
+        bytes[StateRecord::SILENCE] = car.silence;
+        bytes[StateRecord::SEEN] = StateRecord::seen(car);
+        bytes[StateRecord::THRESHOLD] = low_byte(lead.threshold);
+        bytes[StateRecord::THRESHOLD + 1] = high_byte(lead.threshold);
+        bytes[StateRecord::MAXIMUM] = low_byte(car.battery.maximum);
+        bytes[StateRecord::MAXIMUM + 1] = high_byte(car.battery.maximum);
+        bytes[StateRecord::TARGET] = low_byte(status.target);
+        bytes[StateRecord::TARGET + 1] = high_byte(status.target);
+        bytes[StateRecord::TENS] = time.tens.0;
+        bytes[StateRecord::MINUTES] = time.minutes.0;
+        bytes[StateRecord::AGE] = low_byte(low);
+        bytes[StateRecord::AGE + 1] = high_byte(low);
+        bytes[StateRecord::AGE + 2] = low_byte(high);
+        bytes[StateRecord::AGE + 3] = high_byte(high);
         bytes
     }
 
@@ -166,9 +166,9 @@ impl LeadRecord {
         requires { ⌜ length (now bytes) ≡ stateSize ⌝ }
         ensures { λ r. ⌜ r ≡ goodState ratings (now (bytes .entry)) ⌝ }
     {
-        let lead = LeadRecord::read(bytes);
-        (bytes[LeadRecord::SEEN] <= LeadRecord::SEEN_MOST)
-            & is_zero_from(bytes, LeadRecord::SPARE)
+        let lead = StateRecord::read(bytes);
+        (bytes[StateRecord::SEEN] <= StateRecord::SEEN_MOST)
+            & is_zero_from(bytes, StateRecord::SPARE)
             & lead.is_good(ratings)
     }
 }

@@ -1,20 +1,21 @@
 -- `lead::state::Car::hear` meets its contract. By the phase: deaf, past phase 1, in phase 1. Assumes nothing.
 use borrow.Author.Needs.{needs}
 use borrow.Author.Tests.{not-true, not-false, ne-eqb}
-use Rattle.lead.specs.Hearing.{within, hearCar}
+use Rattle.lead.specs.Names.{between}
+use Rattle.lead.specs.Hearing.{hearCar}
 use Rattle.lead.proofs.state.Car.hear.Statement.{statement}
 use Rattle.lead.proofs.state.Car.hear.Tie as tie
 
 returns : tie.Need-returns
 unfolding hearCar
-returns c = rw (not-true (within 1 8 (c .before .args .phase)) (c .if1 .taken))
+returns c = rw (not-true (between 1 8 (c .before .args .phase)) (c .if1 .taken))
 
 returns-2 : tie.Need-returns-2
 unfolding hearCar
 returns-2 c =
     let k = c .before .before in
     let p = k .before .before .before .args .phase in
-    rw (not-false (within 1 8 p) (k .before .before .if1 .left), ne-eqb p 1 (c .if2 .taken), c .before .silence-after .ensures, k .hear .ensures)
+    rw (not-false (between 1 8 p) (k .before .before .if1 .left), ne-eqb p 1 (c .if2 .taken), c .before .silence-after .ensures, k .hear .ensures)
 
 returns-3 : tie.Need-returns-3
 unfolding hearCar

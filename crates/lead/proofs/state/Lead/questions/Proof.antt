@@ -12,4 +12,4 @@ returns c = refl
 pub questions-spec : {M : Type 1} → statement M
 questions-spec =
     tie.close
-    (tie.spec (search needs) (search needs) (search needs) (search needs) (search needs) (search needs) (search needs) returns)
+    (tie.spec (search needs) (search needs) (search needs) (search needs) (search needs) (search needs) returns)

@@ -6,7 +6,7 @@ use Rattle.lead_records.proofs.outputs.OutputRecord.shown.Tie as tie
 
 returns : tie.Need-returns
 unfolding shownBytes
-returns c = rw (c .high-byte .ensures, c .before .low-byte .ensures, c .before .before .relays .ensures, c .before .before .before .test-volts .ensures)
+returns c = rw (c .high-byte .ensures, c .before .low-byte .ensures, c .before .before .controls .ensures, c .before .before .before .test-volts .ensures)
 
 pub shown-spec : {M : Type 1} → statement M
 shown-spec =

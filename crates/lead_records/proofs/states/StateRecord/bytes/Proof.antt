@@ -1,8 +1,8 @@
--- `lead_records::states::LeadRecord::bytes` meets its contract. By the numbers that are written. Assumes nothing.
+-- `lead_records::states::StateRecord::bytes` meets its contract. By the numbers that are written. Assumes nothing.
 use borrow.Author.Needs.{needs}
 use Rattle.lead_records.proofs.Written.{written}
-use Rattle.lead_records.proofs.states.LeadRecord.bytes.Statement.{statement}
-use Rattle.lead_records.proofs.states.LeadRecord.bytes.Tie as tie
+use Rattle.lead_records.proofs.states.StateRecord.bytes.Statement.{statement}
+use Rattle.lead_records.proofs.states.StateRecord.bytes.Tie as tie
 
 returns : tie.Need-returns
 returns c =

@@ -1,8 +1,8 @@
--- `lead_records::states::LeadRecord::read` meets its contract. By the numbers that are read. Assumes nothing.
+-- `lead_records::states::StateRecord::read` meets its contract. By the numbers that are read. Assumes nothing.
 use borrow.Author.Needs.{needs}
 use Rattle.lead_records.specs.States.{decode}
-use Rattle.lead_records.proofs.states.LeadRecord.read.Statement.{statement}
-use Rattle.lead_records.proofs.states.LeadRecord.read.Tie as tie
+use Rattle.lead_records.proofs.states.StateRecord.read.Statement.{statement}
+use Rattle.lead_records.proofs.states.StateRecord.read.Tie as tie
 
 returns : tie.Need-returns
 unfolding decode

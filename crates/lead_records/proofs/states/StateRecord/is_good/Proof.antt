@@ -1,8 +1,8 @@
--- `lead_records::states::LeadRecord::is_good` meets its contract. The test is the rule. Assumes nothing.
+-- `lead_records::states::StateRecord::is_good` meets its contract. The test is the rule. Assumes nothing.
 use borrow.Author.Needs.{needs}
 use Rattle.lead_records.specs.States.{goodState}
-use Rattle.lead_records.proofs.states.LeadRecord.is_good.Statement.{statement}
-use Rattle.lead_records.proofs.states.LeadRecord.is_good.Tie as tie
+use Rattle.lead_records.proofs.states.StateRecord.is_good.Statement.{statement}
+use Rattle.lead_records.proofs.states.StateRecord.is_good.Tie as tie
 
 returns : tie.Need-returns
 unfolding goodState

@@ -1,8 +1,8 @@
--- `lead_records::states::LeadRecord::read_car` meets its contract. By the numbers that are read. Assumes nothing.
+-- `lead_records::states::StateRecord::read_car` meets its contract. By the numbers that are read. Assumes nothing.
 use borrow.Author.Needs.{needs}
 use Rattle.lead_records.specs.States.{decode}
-use Rattle.lead_records.proofs.states.LeadRecord.read_car.Statement.{statement}
-use Rattle.lead_records.proofs.states.LeadRecord.read_car.Tie as tie
+use Rattle.lead_records.proofs.states.StateRecord.read_car.Statement.{statement}
+use Rattle.lead_records.proofs.states.StateRecord.read_car.Tie as tie
 
 returns : tie.Need-returns
 unfolding decode
