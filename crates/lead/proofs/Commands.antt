@@ -1,7 +1,8 @@
 -- What a command leaves alone, and how large it is. Assumes nothing.
 use mathlib.Core.Bool.{Bool, true, false, cond}
 use mathlib.Core.Path.{_≡_, refl}
-use Prim.Native.Nat.{ℕ, _+_, _-_, _/_, _≤_, min}
+use Prim.Native.Nat.{ℕ, _+_, _-_, _*_, _/_, _≤_, min}
+use native.Mathlib.Nat.{div-mul-le-self}
 use native.Mathlib.Omega.{arith}
 use lib.Dec.{T, eqb}
 use borrow.Author.Tests.{ne-eqb}
@@ -29,11 +30,20 @@ module _ (c : Ratings) (level : ℕ) (s : Lead) where
   unfolding commanded
   command-is = refl
 
+  -- what is commanded is no more than the smaller of want and level
+  pub command-watts : commanded c level s .command * s .threshold ≤ min (wantedWatts c s) level
+  unfolding commanded
+  command-watts = div-mul-le-self (min (wantedWatts c s) level) (s .threshold)
+
   pub command-most : commanded c level s .command ≤ wanted c s
   unfolding commanded wantedWatts
   command-most = carried-most (wanted c s) (s .threshold) level
 
 module _ (c : Ratings) (s : Lead) where
+  pub watts-are : wantedWatts c s ≡ wanted c s * s .threshold
+  unfolding wantedWatts
+  watts-are = refl
+
   pub want-6 : s .stage .phase ≡ 6 → wanted c s ≡ min (min (s .car .status .value .request) (c .amperes)) (s .command + 2)
   unfolding wanted
   want-6 e = rw e
@@ -48,7 +58,7 @@ module _ (c : Ratings) (s : Lead) where
       rw
       (ne-eqb (s .stage .phase) 6 (λ e. n (between-of 6 7 (s .stage .phase) (omega arith) (omega arith))), ne-eqb (s .stage .phase) 7 (λ e. n (between-of 6 7 (s .stage .phase) (omega arith) (omega arith))))
 
-  -- a lead wants no more than its rating, or than what it had
+  -- a lead whose command is within its rating wants no more than that
   pub want-rated : s .command ≤ c .amperes → wanted c s ≤ c .amperes
   unfolding wanted
   want-rated h = go (eqb (s .stage .phase) 6) (eqb (s .stage .phase) 7)

@@ -1,5 +1,6 @@
--- Laws. For the functions here: counting up to a bound, amperes and watts, the first no. For those above: what hearing does, where each
--- phase leads, what answers a tick's verdict implies, what a tick does to a lead, what a command leaves alone, and that a good lead stays good.
+-- Laws. For the functions here: counting up to a bound, amperes and watts, the first no, tests as facts.
+-- For those above: what hearing does, where each phase leads, what answers a verdict implies, what `decide` does field by field, what a
+-- command leaves alone, what the end of a whole tick implies, and that a good lead stays good.
 pub mod Counting
 pub mod Watts
 pub mod FirstNo
@@ -9,4 +10,5 @@ pub mod Phases
 pub mod Answers
 pub mod Ticks
 pub mod Commands
+pub mod WholeTicks
 pub mod Goodness

@@ -1,7 +1,8 @@
--- Laws: numbers in a part of a record, bytes that are zero, the written record, and three lists joined.
+-- Laws. For the functions here: numbers in a part of a record, bytes that are zero, the written state, and three lists joined.
+-- For those above: the round trips of a state, and what is read of an input and shown in an output.
 pub mod Parts
 pub mod Zeros
 pub mod Written
 pub mod Joins
 pub mod RoundTrip
-pub mod Lengths
+pub mod Shown

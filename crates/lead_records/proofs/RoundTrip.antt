@@ -1,28 +1,21 @@
--- A lead's state written and read again is the same, good bytes read and written again are the same, and a good lead's bytes are good.
+-- A lead's state written and read again is the same, good bytes read and written again are the same, and both are good together.
 -- Assumes nothing.
 use mathlib.Core.Bool.{Bool, true, false}
 use mathlib.Core.List.{List, [], _∷_}
 use mathlib.Core.Path.{_≡_, refl, ap, _∙_}
-use Prim.Native.Nat.{ℕ, _+_, _-_, _*_, _≤_, _<_}
+use Prim.Native.Nat.{ℕ, _+_, _-_, _≤_, _<_}
 use native.Mathlib.Omega.{arith}
-use lib.Dec.{T, leb, eqb, eqb→eq}
+use lib.Dec.{T, leb, eqb, leb→le, eqb→eq}
 use lib.ListN.{length, getD, drop, replicate, length-drop}
-use Rattle.little_endian.specs.Numbers.{u16At, lowByte, highByte, lowHalf, highHalf}
+use Rattle.little_endian.specs.Numbers.{byteAt, u16At, lowByte, highByte}
 use Rattle.little_endian.specs.Flags.{bitAt, byteOf}
 use Rattle.lead.specs.Good.{goodLead}
 use Rattle.lead.specs.declared.state.Lead.{Lead}
 use Rattle.lead.specs.declared.state.Ratings.{Ratings}
 use Rattle.little_endian.proofs.Spelled.{spelled-is}
+use Rattle.little_endian.proofs.Bytes.{u16-back, u32-back, low-byte-back, high-byte-back, low-half-back, high-half-back}
 use Rattle.lead.proofs.Bools.{and-l, and-r, upTo-at}
-use Rattle.lead_records.specs.States.{stateSize, spareFrom, byteAt, spareBytes, decode, encode, allZero, goodState}
-
-u16-back : (x : ℕ) → lowByte x + 256 * highByte x ≡ x
-u16-back x = omega arith
-
-u32-back :
-    (x : ℕ)
-    → lowByte (lowHalf x) + 256 * highByte (lowHalf x) + 65536 * (lowByte (highHalf x) + 256 * highByte (highHalf x)) ≡ x
-u32-back x = omega arith
+use Rattle.lead_records.specs.States.{stateSize, spareFrom, spareBytes, unusedClear, decode, encode, allZero, goodState}
 
 -- the three bits of the byte of frames seen
 seen-back :
@@ -46,7 +39,6 @@ decode-encode s =
     rw
     (u16-back (s .threshold), u16-back (car .battery .maximum), u16-back (car .status .value .target), u32-back (s .stage .age), seen .0, seen .1 .0, seen .1 .1)
 
--- The other way round, for bytes that a lead's part of refusal 6 lets through.
 seen-again : (x : ℕ) → x ≤ 7 → byteOf (bitAt 0 x ∷ bitAt 1 x ∷ bitAt 2 x ∷ []) ≡ x
 seen-again x h =
     eqb→eq (byteOf (bitAt 0 x ∷ bitAt 1 x ∷ bitAt 2 x ∷ [])) x
@@ -57,40 +49,28 @@ zeros [] t = refl
 zeros (x ∷ l) t =
     rw (eqb→eq x 0 (and-l (eqb x 0) (allZero l) t)) (ap (λ r. 0 ∷ r) (zeros l (and-r (eqb x 0) (allZero l) t)))
 
-low-back : (a b : ℕ) → a < 256 → lowByte (a + 256 * b) ≡ a
-low-back a b h = omega arith
-
-high-back : (a b : ℕ) → a < 256 → highByte (a + 256 * b) ≡ b
-high-back a b h = omega arith
-
-low-half-back : (a b : ℕ) → a < 65536 → lowHalf (a + 65536 * b) ≡ a
-low-half-back a b h = omega arith
-
-high-half-back : (a b : ℕ) → a < 65536 → highHalf (a + 65536 * b) ≡ b
-high-half-back a b h = omega arith
-
 module _ (b : List ℕ) (long : length b ≡ stateSize) where
-  module _ (small : (n : ℕ) → getD b n 0 < 256) (seen : getD b 7 0 ≤ 7) (spare : T (allZero (drop spareFrom b))) where
+  module _ (small : (n : ℕ) → getD b n 0 < 256) (clear : T (unusedClear b)) where
     spare-zero : drop spareFrom b ≡ spareBytes
-    spare-zero = let rest : length (drop spareFrom b) ≡ 12 = length-drop spareFrom b ∙ ap (λ n. n - spareFrom) long in rw rest at (zeros (drop spareFrom b) spare)
+    spare-zero = let rest : length (drop spareFrom b) ≡ 12 = length-drop spareFrom b ∙ ap (λ n. n - spareFrom) long in rw rest at (zeros (drop spareFrom b) (and-r (leb (byteAt b 7) 7) (allZero (drop spareFrom b)) clear))
 
     low : (n : ℕ) → lowByte (u16At b n) ≡ getD b n 0
-    low n = low-back (getD b n 0) (getD b (n + 1) 0) (small n)
+    low n = low-byte-back (getD b n 0) (getD b (n + 1) 0) (small n)
 
     high : (n : ℕ) → highByte (u16At b n) ≡ getD b (n + 1) 0
-    high n = high-back (getD b n 0) (getD b (n + 1) 0) (small n)
+    high n = high-byte-back (getD b n 0) (getD b (n + 1) 0) (small n)
 
     half-small : u16At b 16 < 65536
     half-small = omega (arith, small 16, small 17)
 
+    -- the other way round, for bytes whose unused bits and bytes are clear, as those of every good state are
     pub encode-decode : encode (decode b) ≡ b
     unfolding encode decode
     encode-decode =
         rw
-        (low-half-back (u16At b 16) (u16At b 18) half-small, high-half-back (u16At b 16) (u16At b 18) half-small, low 8, high 8, low 10, high 10, low 12, high 12, low 16, high 16, low 18, high 18, seen-again (getD b 7 0) seen, ← spare-zero)
+        (low-half-back (u16At b 16) (u16At b 18) half-small, high-half-back (u16At b 16) (u16At b 18) half-small, low 8, high 8, low 10, high 10, low 12, high 12, low 16, high 16, low 18, high 18, seen-again (getD b 7 0) (leb→le (byteAt b 7) 7 (and-l (leb (byteAt b 7) 7) (allZero (drop spareFrom b)) clear)), ← spare-zero)
         (spelled-is 0 b spareFrom 0 (omega arith))
 
--- what is written of a lead is good where the lead is
 seen-small : (a b c : Bool) → leb (byteOf (a ∷ b ∷ c ∷ [])) 7 ≡ true
 seen-small true true true = refl
 seen-small true true false = refl
@@ -114,6 +94,17 @@ module _ (s : Lead) where
   unfolding encode
   encode-spare = refl
 
+  -- what is written of a lead is good where the lead is
   pub encode-good : (c : Ratings) → goodState c (encode s) ≡ goodLead c s
   unfolding goodState
   encode-good c = rw (encode-seen, encode-spare, decode-encode s)
+
+-- what a good state says
+module _ (c : Ratings) (b : List ℕ) (good : T (goodState c b)) where
+  pub good-clear : T (unusedClear b)
+  unfolding goodState
+  good-clear = and-l (unusedClear b) (goodLead c (decode b)) good
+
+  pub good-lead : T (goodLead c (decode b))
+  unfolding goodState
+  good-lead = and-r (unusedClear b) (goodLead c (decode b)) good

@@ -4,14 +4,13 @@ use mathlib.Core.List.{List}
 use Prim.Native.Nat.{ℕ, _*_}
 use lib.Dec.{leb, eqb}
 use lib.ListN.{take, drop}
-use Rattle.little_endian.specs.Numbers.{u32At}
+use Rattle.little_endian.specs.Numbers.{byteAt, u32At}
 use Rattle.little_endian.specs.Flags.{bitAt}
 use Rattle.readings.specs.Readings.{readingOf, judgedOf}
 use Rattle.frames.specs.Records.{recordSize}
 use Rattle.frames.specs.Heard.{newestBattery, newestTime, newestStatus}
 use Rattle.lead.specs.declared.state.Contacts.{Contacts}
 use Rattle.lead.specs.declared.state.Input.{Input}
-use Rattle.lead_records.specs.States.{byteAt}
 
 -- "then 104 a lead"
 abbrev pub inputSize : ℕ

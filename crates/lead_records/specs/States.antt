@@ -1,10 +1,10 @@
 -- Document 01, 'The post's two calls': the 32 bytes of a lead's state. Definitions only.
 use mathlib.Core.Bool.{Bool, true, _&&_}
 use mathlib.Core.List.{List, [], _∷_, _++_}
-use Prim.Native.Nat.{ℕ}
+use Prim.Native.Nat.{ℕ, _-_}
 use lib.Dec.{leb, eqb}
-use lib.ListN.{getD, drop}
-use Rattle.little_endian.specs.Numbers.{u16At, u32At, lowByte, highByte, lowHalf, highHalf}
+use lib.ListN.{drop, replicate}
+use Rattle.little_endian.specs.Numbers.{byteAt, u16At, u32At, u16Bytes, u32Bytes}
 use Rattle.little_endian.specs.Flags.{bitAt, byteOf}
 use Rattle.frames.specs.Times.{bytesOf}
 use Rattle.lead.specs.Good.{goodLead}
@@ -19,9 +19,6 @@ stateSize = 32
 -- bytes from here on are spare
 abbrev pub spareFrom : ℕ
 spareFrom = 20
-
-abbrev pub byteAt : List ℕ → ℕ → ℕ
-byteAt b place = getD b place 0
 
 -- "0 phase; 1 reason, 0 for none; 2 command; 3 request; 4, 5 bytes 4, 5 of H'102; 6 silence; 7 seen (bits 0–2 for H'100–H'102);
 -- 8–9 threshold; 10–11 maximum voltage; 12–13 target; 14, 15 bytes 1, 2 of H'101; 16–19 age"
@@ -44,15 +41,9 @@ decode b =
           };
     }
 
-abbrev pub u16Bytes : ℕ → List ℕ
-u16Bytes x = lowByte x ∷ highByte x ∷ []
-
-abbrev pub u32Bytes : ℕ → List ℕ
-u32Bytes x = u16Bytes (lowHalf x) ++ u16Bytes (highHalf x)
-
 -- "rest 0"
 abbrev pub spareBytes : List ℕ
-spareBytes = 0 ∷ 0 ∷ 0 ∷ 0 ∷ 0 ∷ 0 ∷ 0 ∷ 0 ∷ 0 ∷ 0 ∷ 0 ∷ 0 ∷ []
+spareBytes = replicate (stateSize - spareFrom) 0
 
 abbrev pub seenByte : Car → ℕ
 seenByte car = byteOf (car .battery .seen ∷ car .time .seen ∷ car .status .seen ∷ [])
@@ -74,6 +65,10 @@ abbrev pub allZero : List ℕ → Bool
 allZero [] = true
 allZero (byte ∷ bytes) = eqb byte 0 && allZero bytes
 
--- a lead's part of refusal 6: "seen 0–7", "spare bytes 0", and what is asked of the lead itself
+-- "seen 0–7", "spare bytes 0"
+abbrev pub unusedClear : List ℕ → Bool
+unusedClear b = leb (byteAt b 7) 7 && allZero (drop spareFrom b)
+
+-- a lead's part of refusal 6: unused bits and bytes, and what is asked of the lead itself
 unfoldable pub goodState : Ratings → List ℕ → Bool
-goodState c b = leb (byteAt b 7) 7 && allZero (drop spareFrom b) && goodLead c (decode b)
+goodState c b = unusedClear b && goodLead c (decode b)

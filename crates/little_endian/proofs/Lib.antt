@@ -1,3 +1,4 @@
--- Laws: a list by its elements, and a byte of eight bits.
+-- Laws: a list by its elements, a byte of eight bits, and numbers to bytes and back.
 pub mod Spelled
 pub mod Bits
+pub mod Bytes

@@ -1,11 +1,14 @@
 -- Numbers of two and four bytes, the lowest byte first. Definitions only.
-use mathlib.Core.List.{List}
+use mathlib.Core.List.{List, [], _∷_, _++_}
 use Prim.Native.Nat.{ℕ, _+_, _*_, _/_, _%_}
 use lib.ListN.{getD}
 
+abbrev pub byteAt : List ℕ → ℕ → ℕ
+byteAt s at = getD s at 0
+
 -- the number that starts at a place of a list of bytes
 abbrev pub u16At : List ℕ → ℕ → ℕ
-u16At s at = getD s at 0 + 256 * getD s (at + 1) 0
+u16At s at = byteAt s at + 256 * byteAt s (at + 1)
 
 abbrev pub u32At : List ℕ → ℕ → ℕ
 u32At s at = u16At s at + 65536 * u16At s (at + 2)
@@ -23,3 +26,10 @@ lowHalf x = x % 65536
 
 abbrev pub highHalf : ℕ → ℕ
 highHalf x = x / 65536
+
+-- a number as its bytes
+abbrev pub u16Bytes : ℕ → List ℕ
+u16Bytes x = lowByte x ∷ highByte x ∷ []
+
+abbrev pub u32Bytes : ℕ → List ℕ
+u32Bytes x = u16Bytes (lowHalf x) ++ u16Bytes (highHalf x)

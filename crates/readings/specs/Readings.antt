@@ -18,7 +18,7 @@ readingOf false bits = Missing
 unfoldable pub inRange : Measurement → Bool
 inRange m = within 1000 (m .volts) && within 400 (m .amperes)
 
--- "Connector volts are volts minus cable resistance × amperes: the product rounded once, the difference rounded once, a negative result taken as 0"
+-- "Connector volts … are volts minus cable resistance × amperes: the product rounded once, the difference rounded once, a negative result taken as 0"
 unfoldable pub connectorVolts : Measurement → Float
 connectorVolts m =
     let difference = sub binary32 (m .volts) (mul binary32 (m .resistance) (m .amperes)) in
@@ -41,7 +41,7 @@ judgedOf Missing amperes bits = Bad
 abbrev pub wholeUnits : ℕ → ℕ
 wholeUnits steps = ceiling steps stepsPerUnit
 
--- question 27: "Resistance, if given, at least 100 ohms × threshold? A NaN is a no, plus infinity a yes."
+-- question 27: "Resistance, if given, at least 100 ohms × threshold? … A NaN is a no, plus infinity a yes."
 abbrev pub insulated : ℕ → Reading → Bool
 insulated threshold (Value ohms) = le (number (100 * threshold)) ohms
 insulated threshold Missing = true

@@ -1,14 +1,17 @@
--- How long an output is. Assumes nothing.
+-- What those above read of an input and of an output. Assumes nothing.
 use mathlib.Core.Bool.{Bool, true, false, cond}
 use mathlib.Core.List.{List, [], _∷_, _++_}
 use mathlib.Core.Path.{_≡_, refl}
 use Prim.Native.Nat.{ℕ}
 use lib.ListN.{length, length-append}
 use Rattle.readings.specs.declared.Judged.{Judged}
+use Rattle.little_endian.specs.Numbers.{byteAt}
+use Rattle.frames.specs.Heard.{newestStatus}
 use Rattle.frames.specs.Sent.{offerBytes, reportBytes}
 use Rattle.lead.specs.Names.{between}
 use Rattle.lead.specs.declared.state.Lead.{Lead}
 use Rattle.lead.specs.declared.state.Ratings.{Ratings}
+use Rattle.lead_records.specs.Inputs.{contactsOf, frameRecords, inputOf}
 use Rattle.lead_records.specs.Outputs.{outputSize, offerOf, reportOf, whileSending, shownBytes, outputOf}
 
 sent-length : (p : ℕ) (frame : List ℕ) → length frame ≡ 8 → length (whileSending p frame) ≡ 8
@@ -34,3 +37,17 @@ module _ (c : Ratings) (lock : Bool) (reading : Judged) (s : Lead) where
       let report = whileSending (s .stage .phase) (reportBytes (reportOf lock reading s)) in
       rw
       (length-append (shownBytes s ++ offer) report, length-append (shownBytes s) offer, sent-length (s .stage .phase) (offerBytes (offerOf c s)) offer-length, sent-length (s .stage .phase) (reportBytes (reportOf lock reading s)) report-length)
+
+  -- byte 2 of the output is the command
+  pub output-command : byteAt (outputOf c lock reading s) 2 ≡ s .command
+  unfolding outputOf shownBytes
+  output-command = refl
+
+module _ (b : List ℕ) (resistance : ℕ) where
+  pub input-contacts : inputOf b resistance .contacts ≡ contactsOf (byteAt b 0)
+  unfolding inputOf
+  input-contacts = refl
+
+  pub input-status : inputOf b resistance .status ≡ newestStatus (byteAt b 2) (frameRecords b)
+  unfolding inputOf
+  input-status = refl
