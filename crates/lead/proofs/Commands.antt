@@ -55,8 +55,10 @@ module _ (c : Ratings) (s : Lead) where
   pub want-0 : (T (between 6 7 (s .stage .phase)) → ⊥) → wanted c s ≡ 0
   unfolding wanted
   want-0 n =
-      rw
-      (ne-eqb (s .stage .phase) 6 (λ e. n (between-of 6 7 (s .stage .phase) (omega arith) (omega arith))), ne-eqb (s .stage .phase) 7 (λ e. n (between-of 6 7 (s .stage .phase) (omega arith) (omega arith))))
+      rw (
+        ne-eqb (s .stage .phase) 6 (λ e. n (between-of 6 7 (s .stage .phase) (omega arith) (omega arith))),
+        ne-eqb (s .stage .phase) 7 (λ e. n (between-of 6 7 (s .stage .phase) (omega arith) (omega arith))),
+      )
 
   -- a lead whose command is within its rating wants no more than that
   pub want-rated : s .command ≤ c .amperes → wanted c s ≤ c .amperes

@@ -130,6 +130,9 @@ fn first_no(phase: u8, rows: [Question; Question::COUNT]) -> Verdict
 }
 
 impl Lead {
+    // Question 28, by phase.
+    const TICKS_ALLOWED: [u8; Phase::COUNT] = [0, 100, 20, 150, 50, 100, 0, 0, 0, 0, 0];
+
     fn threshold_now(self, ratings: Ratings) -> u16
         ensures { λ r. ⌜ r ≡ thresholdNow ratings self ⌝ }
     {
@@ -160,9 +163,6 @@ impl Lead {
             time: time.ticks().0,
         }
     }
-
-    // Question 28, by phase.
-    const TICKS_ALLOWED: [u8; Phase::COUNT] = [0, 100, 20, 150, 50, 100, 0, 0, 0, 0, 0];
 
     // Of a lead that has heard the tick's frames.
     fn questions(self, view: View) -> [Question; Question::COUNT]

@@ -36,8 +36,15 @@ unfolding decode encode
 decode-encode s =
     let car = s .car in
     let seen = seen-back (car .battery .seen) (car .time .seen) (car .status .seen) in
-    rw
-    (u16-back (s .threshold), u16-back (car .battery .maximum), u16-back (car .status .value .target), u32-back (s .stage .age), seen .0, seen .1 .0, seen .1 .1)
+    rw (
+      u16-back (s .threshold),
+      u16-back (car .battery .maximum),
+      u16-back (car .status .value .target),
+      u32-back (s .stage .age),
+      seen .0,
+      seen .1 .0,
+      seen .1 .1,
+    )
 
 seen-again : (x : ℕ) → x ≤ 7 → byteOf (bitAt 0 x ∷ bitAt 1 x ∷ bitAt 2 x ∷ []) ≡ x
 seen-again x h =
@@ -67,8 +74,22 @@ module _ (b : List ℕ) (long : length b ≡ stateSize) where
     pub encode-decode : encode (decode b) ≡ b
     unfolding encode decode
     encode-decode =
-        rw
-        (low-half-back (u16At b 16) (u16At b 18) half-small, high-half-back (u16At b 16) (u16At b 18) half-small, low 8, high 8, low 10, high 10, low 12, high 12, low 16, high 16, low 18, high 18, seen-again (getD b 7 0) (leb→le (byteAt b 7) 7 (and-l (leb (byteAt b 7) 7) (allZero (drop spareFrom b)) clear)), ← spare-zero)
+        rw (
+          low-half-back (u16At b 16) (u16At b 18) half-small,
+          high-half-back (u16At b 16) (u16At b 18) half-small,
+          low 8,
+          high 8,
+          low 10,
+          high 10,
+          low 12,
+          high 12,
+          low 16,
+          high 16,
+          low 18,
+          high 18,
+          seen-again (getD b 7 0) (leb→le (byteAt b 7) 7 (and-l (leb (byteAt b 7) 7) (allZero (drop spareFrom b)) clear)),
+          ← spare-zero,
+        )
         (spelled-is 0 b spareFrom 0 (omega arith))
 
 seen-small : (a b c : Bool) → leb (byteOf (a ∷ b ∷ c ∷ [])) 7 ≡ true

@@ -35,8 +35,12 @@ module _ (c : Ratings) (lock : Bool) (reading : Judged) (s : Lead) where
   output-length =
       let offer = whileSending (s .stage .phase) (offerBytes (offerOf c s)) in
       let report = whileSending (s .stage .phase) (reportBytes (reportOf lock reading s)) in
-      rw
-      (length-append (shownBytes s ++ offer) report, length-append (shownBytes s) offer, sent-length (s .stage .phase) (offerBytes (offerOf c s)) offer-length, sent-length (s .stage .phase) (reportBytes (reportOf lock reading s)) report-length)
+      rw (
+        length-append (shownBytes s ++ offer) report,
+        length-append (shownBytes s) offer,
+        sent-length (s .stage .phase) (offerBytes (offerOf c s)) offer-length,
+        sent-length (s .stage .phase) (reportBytes (reportOf lock reading s)) report-length,
+      )
 
   -- byte 2 of the output is the command
   pub output-command : byteAt (outputOf c lock reading s) 2 ≡ s .command

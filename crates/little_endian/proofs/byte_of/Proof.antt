@@ -11,7 +11,16 @@ returns c =
     let k = c .before .before .before .before in
     let bits = k .before .before .before .before .args .t1 in
     let long : length bits ≡ 8 = search needs in
-    rw (c .bit-value8 .ensures .0, c .before .bit-value7 .ensures .0, c .before .before .bit-value6 .ensures .0, c .before .before .before .bit-value5 .ensures .0, k .bit-value4 .ensures .0, k .before .bit-value3 .ensures .0, k .before .before .bit-value2 .ensures .0, k .before .before .before .bit-value .ensures .0) (weights bits long)
+    rw (
+      c .bit-value8 .ensures .0,
+      c .before .bit-value7 .ensures .0,
+      c .before .before .bit-value6 .ensures .0,
+      c .before .before .before .bit-value5 .ensures .0,
+      k .bit-value4 .ensures .0,
+      k .before .bit-value3 .ensures .0,
+      k .before .before .bit-value2 .ensures .0,
+      k .before .before .before .bit-value .ensures .0,
+    ) (weights bits long)
 
 pub byte-of-spec : {M : Type 1} → statement M
 byte-of-spec =

@@ -8,7 +8,15 @@ returns : tie.Need-returns
 unfolding viewOf
 returns c =
     let k = c .before .before .before in
-    rw (c .ticks .ensures, c .before .at-phase .ensures, c .before .before .is-insulated .ensures, k .is-given .ensures, k .before .signals .ensures, k .before .before .from-reading .ensures, k .before .before .before .threshold-now .ensures)
+    rw (
+      c .ticks .ensures,
+      c .before .at-phase .ensures,
+      c .before .before .is-insulated .ensures,
+      k .is-given .ensures,
+      k .before .signals .ensures,
+      k .before .before .from-reading .ensures,
+      k .before .before .before .threshold-now .ensures,
+    )
 
 pub view-spec : {M : Type 1} → statement M
 view-spec =

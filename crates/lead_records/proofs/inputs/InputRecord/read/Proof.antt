@@ -15,9 +15,23 @@ returns c =
     let k = c .before .before .before in
     let m = k .before .before .before .before .before .before in
     let b = now (m .before .before .before .before .before .before .before .args .bytes) in
-    rw (c .newest3 .ensures, c .before .newest2 .ensures, c .before .before .newest .ensures, k .from-bytes3 .ensures, k .before .before .judge .ensures, k .before .before .before .contacts .ensures, m .from-bytes2 .ensures, m .before .before .from-bytes .ensures, u32-part b 4, u32-part b 8, u32-part b 12)
+    rw (
+      c .newest3 .ensures,
+      c .before .newest2 .ensures,
+      c .before .before .newest .ensures,
+      k .from-bytes3 .ensures,
+      k .before .before .judge .ensures,
+      k .before .before .before .contacts .ensures,
+      m .from-bytes2 .ensures,
+      m .before .before .from-bytes .ensures,
+      u32-part b 4,
+      u32-part b 8,
+      u32-part b 12,
+    )
 
 pub read-spec : {M : Type 1} → statement M
 read-spec =
     tie.close
-    (tie.spec (search needs) (search needs) (search needs) (search needs) (search needs) (search needs) (search needs) (search needs) (search needs) (search needs) (search needs) (search needs) (search needs) (search needs) (search needs) judge-requires (search needs) (search needs) (search needs) (search needs) (search needs) (search needs) (search needs) returns)
+    (tie.spec (search needs) (search needs) (search needs) (search needs) (search needs) (search needs) (search needs) (search needs)
+    (search needs) (search needs) (search needs) (search needs) (search needs) (search needs) (search needs) judge-requires (search needs)
+    (search needs) (search needs) (search needs) (search needs) (search needs) (search needs) returns)

@@ -9,7 +9,13 @@ returns c =
     let k = c .before .before .before .before in
     let m = k .before .before .before .before in
     let n = m .before .before .before .before in
-    written (n .before .before .before .before .before .args .lead) (n .low-half .ensures) (m .before .before .before .high-half .ensures) (m .before .before .seen .ensures) (m .before .low-byte .ensures) (m .high-byte .ensures) (k .before .before .before .low-byte2 .ensures) (k .before .before .high-byte2 .ensures) (k .before .low-byte3 .ensures) (k .high-byte3 .ensures) (c .before .before .before .low-byte4 .ensures) (c .before .before .high-byte4 .ensures) (c .before .low-byte5 .ensures) (c .high-byte5 .ensures)
+    written (n .before .before .before .before .before .args .lead)
+    (n .low-half .ensures) (m .before .before .before .high-half .ensures) (m .before .before .seen .ensures)
+    (m .before .low-byte .ensures) (m .high-byte .ensures)
+    (k .before .before .before .low-byte2 .ensures) (k .before .before .high-byte2 .ensures)
+    (k .before .low-byte3 .ensures) (k .high-byte3 .ensures)
+    (c .before .before .before .low-byte4 .ensures) (c .before .before .high-byte4 .ensures)
+    (c .before .low-byte5 .ensures) (c .high-byte5 .ensures)
 
 pub bytes-spec : {M : Type 1} → statement M
 bytes-spec =
