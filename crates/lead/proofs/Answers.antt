@@ -4,11 +4,12 @@ use mathlib.Core.Bool.{Bool, true, false, not, cond, _&&_, _||_}
 use mathlib.Core.List.{List, [], _∷_}
 use mathlib.Core.Logic.{_⊎_, inl, inr}
 use mathlib.Core.Path.{_≡_, refl}
-use Prim.Native.Nat.{ℕ, zero, suc, _-_, _≤_}
+use Prim.Native.Nat.{ℕ, zero, suc, _+_, _-_, _≤_}
 use native.Mathlib.Omega.{arith}
-use lib.Dec.{T, T-not, not-T, leb, ltb, eqb}
+use lib.Dec.{T, T-not, not-T, leb, ltb, eqb, eqb→eq}
 use borrow.Author.Tests.{ne-eqb}
 use lib.ListN.{getD}
+use lib.Ieee.Fits.{and-l, and-r}
 use Rattle.readings.specs.Readings.{insulated}
 use Rattle.frames.specs.Heard.{signalsOf}
 use Rattle.frames.specs.Times.{chargingTicks}
@@ -23,14 +24,15 @@ use Rattle.lead.specs.declared.questions.View.{View}
 use Rattle.lead.specs.declared.questions.Question.{Question}
 use Rattle.lead.specs.declared.questions.Verdict.{Verdict}
 use Rattle.lead.specs.declared.questions.Verdict.the-variants.{Pass, Urgent, Ordinary}
-use Rattle.lead.proofs.Bools.{and-l, and-r, or-cases, is-true, between-lo, upTo-at}
+use Rattle.readings.proofs.Tests.{either, is-true}
+use Rattle.lead.proofs.Bools.{between-lo, upTo-at}
 use Rattle.lead.proofs.Phases.{isPass, isUrgent}
 
 -- the question at a place
-abbrev pub row : List Question → ℕ → Question
+abbrev row : List Question → ℕ → Question
 row rows j = getD rows j noQuestion
 
-abbrev pub everyRow : (Question → Bool) → List Question → Bool
+abbrev everyRow : (Question → Bool) → List Question → Bool
 everyRow f [] = true
 everyRow f (q ∷ rows) = f q && everyRow f rows
 
@@ -40,7 +42,7 @@ module _ (p : ℕ) where
 
   module _ (f : Verdict → Bool) where
     -- a no at some place: the verdict is the stop of a question up to there
-    pub no-gives : (rows : List Question) (j : ℕ) → T (isNo p (row rows j)) → ((i : ℕ) → i ≤ j → T (f (stopOf (row rows i)))) → T (f (firstNo p rows))
+    no-gives : (rows : List Question) (j : ℕ) → T (isNo p (row rows j)) → ((i : ℕ) → i ≤ j → T (f (stopOf (row rows i)))) → T (f (firstNo p rows))
     no-gives [] j t s = absurd (never t)
     no-gives (q ∷ rows) zero t s = rw (is-true (isNo p q) t) (s 0 (omega arith))
     no-gives (q ∷ rows) (suc j) t s = go (isNo p q) (no-gives rows j t (λ i h. s (suc i) (omega arith)))
@@ -50,7 +52,7 @@ module _ (p : ℕ) where
         go false r = r
 
     -- a test that a pass and every stop meet
-    pub each-gives : (rows : List Question) → T (f Pass) → T (everyRow (λ q. f (stopOf q)) rows) → T (f (firstNo p rows))
+    each-gives : (rows : List Question) → T (f Pass) → T (everyRow (λ q. f (stopOf q)) rows) → T (f (firstNo p rows))
     each-gives [] t s = t
     each-gives (q ∷ rows) t s = go (isNo p q) (each-gives rows t (and-r (f (stopOf q)) (everyRow (λ q. f (stopOf q)) rows) s))
       where
@@ -67,7 +69,7 @@ stop-stops q = go (q .1)
 
 module _ (v : View) (s : Lead) where
   -- without a stop nothing that was asked got a no
-  pub pass-yes : T (isPass (ask v s)) → (j : ℕ) → T (isNo (s .stage .phase) (row (questions v s) j)) → ⊥
+  pass-yes : T (isPass (ask v s)) → (j : ℕ) → T (isNo (s .stage .phase) (row (questions v s) j)) → ⊥
   unfolding ask
   pass-yes t j n =
       T-not (isPass (ask v s)) (no-gives (s .stage .phase) (λ w. not (isPass w)) (questions v s) j n (λ i h. stop-stops (row (questions v s) i))) t
@@ -77,11 +79,11 @@ module _ (v : View) (s : Lead) where
   unfolding questions
   urgent-rows = upTo-at 7 (λ i. isUrgent (stopOf (row (questions v s) i))) tt
 
-  pub urgent-no : (j : ℕ) → j ≤ 7 → T (isNo (s .stage .phase) (row (questions v s) j)) → T (isUrgent (ask v s))
+  urgent-no : (j : ℕ) → j ≤ 7 → T (isNo (s .stage .phase) (row (questions v s) j)) → T (isUrgent (ask v s))
   unfolding ask
   urgent-no j h n = no-gives (s .stage .phase) isUrgent (questions v s) j n (λ i k. urgent-rows i (omega arith))
 
-  pub mild-yes : T (not (isUrgent (ask v s))) → (j : ℕ) → j ≤ 7 → T (isNo (s .stage .phase) (row (questions v s) j)) → ⊥
+  mild-yes : T (not (isUrgent (ask v s))) → (j : ℕ) → j ≤ 7 → T (isNo (s .stage .phase) (row (questions v s) j)) → ⊥
   mild-yes t j h n = T-not (isUrgent (ask v s)) t (urgent-no j h n)
 
   -- the number of a verdict is 0 or that of a question
@@ -111,7 +113,7 @@ module _ (v : View) (s : Lead) (p≤ : s .stage .phase ≤ 10) where
   -- outside 1 to 8 nothing is asked
   pub quiet : T (not (between 1 8 (s .stage .phase))) → ask v s ≡ Pass
   unfolding ask
-  quiet t = go (or-cases (between 1 8 (s .stage .phase)) (everyRow (unasked (s .stage .phase)) (questions v s)) outside)
+  quiet t = go (either (between 1 8 (s .stage .phase)) (everyRow (unasked (s .stage .phase)) (questions v s)) outside)
     where
       go : T (between 1 8 (s .stage .phase)) ⊎ T (everyRow (unasked (s .stage .phase)) (questions v s)) → ask v s ≡ Pass
       go (inl w) = absurd (T-not (between 1 8 (s .stage .phase)) t w)
@@ -163,10 +165,12 @@ unfolding hear
 threshold-kept c i s h = rw (ne-eqb (s .stage .phase) 1 (omega arith))
 
 module _ (c : Ratings) (i : Input) (s : Lead) where
-  abbrev verdict : Verdict
+  -- the verdict of the tick
+  abbrev pub verdict : Verdict
   verdict = ask (viewOf c i (hear i s)) (hear i s)
 
-  abbrev asked-row : ℕ → Question
+  -- the question at a place, as the tick asks it
+  abbrev pub asked-row : ℕ → Question
   asked-row j = row (questions (viewOf c i (hear i s)) (hear i s)) j
 
   urgent-said : T (not (isUrgent verdict)) → (j : ℕ) → j ≤ 7 → T (between (asked-row j .2) (asked-row j .3) (hear i s .stage .phase)) → T (asked-row j .4)
@@ -174,6 +178,11 @@ module _ (c : Ratings) (i : Input) (s : Lead) where
 
   said : T (isPass verdict) → (j : ℕ) → T (between (asked-row j .2) (asked-row j .3) (hear i s .stage .phase)) → T (asked-row j .4)
   said t j = said-yes (hear i s .stage .phase) (asked-row j) (pass-yes (viewOf c i (hear i s)) (hear i s) t j)
+
+  -- the rows stand in the order of their numbers, from 11 on
+  pub in-order : (j : ℕ) → j ≤ 18 → asked-row j .0 ≡ 11 + j
+  unfolding questions
+  in-order j h = eqb→eq (asked-row j .0) (11 + j) (upTo-at 18 (λ n. eqb (asked-row n .0) (11 + n)) tt j h)
 
   -- what a tick without an urgent stop implies
   pub urgent-yes : T (not (isUrgent verdict)) → UrgentYes c i s
@@ -227,9 +236,3 @@ module _ (c : Ratings) (i : Input) (s : Lead) where
         go : (b : Bool) → between 1 8 (s .stage .phase) ≡ b → T b
         go true e = tt
         go false e = T-not (isPass verdict) no-is-stop (rw (quiet (viewOf c i (hear i s)) (hear i s) p≤ (rw e tt)) tt)
-
--- a tick without a stop has no urgent one
-pub pass-mild : (w : Verdict) → T (isPass w) → T (not (isUrgent w))
-pass-mild Pass t = tt
-pass-mild (Urgent number) t = absurd t
-pass-mild (Ordinary number) t = absurd t

@@ -5,6 +5,7 @@ use mathlib.Core.Path.{_≡_, refl, sym, subst, ap, _∙_}
 use Prim.Native.Nat.{ℕ, _≤_, min}
 use native.Mathlib.Omega.{arith}
 use lib.Dec.{T, T-not, not-T, leb, eqb, leb→le, le→leb, eqb→eq}
+use lib.Ieee.Fits.{and-i, and-l, and-r}
 use borrow.Author.Tests.{eq-eqb}
 use Rattle.frames.specs.Heard.{signalsOf}
 use Rattle.lead.specs.Names.{between, handshake, locking, noReason}
@@ -17,11 +18,12 @@ use Rattle.lead.specs.declared.state.Lead.{Lead}
 use Rattle.lead.specs.declared.state.Ratings.{Ratings}
 use Rattle.lead.specs.declared.state.Car.{Car}
 use Rattle.lead.specs.declared.state.Input.{Input}
-use Rattle.lead.proofs.Bools.{and-l, and-r, both, or-cases, or-r, mp, imp-of, is-false, holds, between-of, between-lo}
+use Rattle.readings.proofs.Tests.{either, holds}
+use Rattle.lead.proofs.Bools.{or-r, mp, imp-of, is-false, between-of, between-lo}
 use Rattle.lead.proofs.Phases as phases
 use Rattle.lead.proofs.Phases.{isPass}
-use Rattle.lead.proofs.Answers.{OrdinaryYes, ordinary-yes, number-known}
-use Rattle.lead.proofs.Ticks.{verdict, may, phaseAfter, start, MoveMet, move-met, decide-phase, started, WentOn, not-started}
+use Rattle.lead.proofs.Answers.{verdict, OrdinaryYes, ordinary-yes, number-known}
+use Rattle.lead.proofs.Ticks.{may, phaseAfter, start, MoveMet, move-met, decide-phase, started, WentOn, not-started}
 use Rattle.lead.proofs.Commands.{command-most, command-0, want-rated}
 
 -- what the good-state check says of a lead
@@ -71,10 +73,10 @@ module _ (c : Ratings) (s : Lead) where
         phase = leb→le p 10 (and-l (leb p 10) known start);
         reason = and-r (leb p 10) known start;
         most = leb→le (s .command) (c .amperes) (and-l rated spent power);
-        unpowered = λ n. none-commanded (or-cases (between 6 7 p) (eqb (s .command) 0) (and-r rated spent power)) n;
+        unpowered = λ n. none-commanded (either (between 6 7 p) (eqb (s .command) 0) (and-r rated spent power)) n;
         threshold = and-l volts none early;
-        unkept = λ e. eqb→eq t 0 (mp (eqb p handshake) (eqb t 0) (and-r volts none early) (holds (eqb p handshake) (eq-eqb p handshake e)));
-        kept = λ w e. T-not (eqb t 0) (mp (between 2 7 p) (not (eqb t 0)) (and-r (volts && none) some last) w) (holds (eqb t 0) (eq-eqb t 0 e));
+        unkept = λ e. eqb→eq t 0 (mp (eqb p handshake) (eqb t 0) (and-r volts none early) (holds (eq-eqb p handshake e)));
+        kept = λ w e. T-not (eqb t 0) (mp (between 2 7 p) (not (eqb t 0)) (and-r (volts && none) some last) w) (holds (eq-eqb t 0 e));
       }
     where
       none-commanded : T (between 6 7 p) ⊎ T (eqb (s .command) 0) → (T (between 6 7 p) → ⊥) → s .command ≡ 0
@@ -84,17 +86,17 @@ module _ (c : Ratings) (s : Lead) where
   pub good-of : Good c s → T (goodLead c s)
   unfolding goodLead goodThreshold
   good-of g =
-      both (leb p 10 && known && (rated && spent)) (volts && none && some)
-      (both (leb p 10 && known) (rated && spent) (both (leb p 10) known (le→leb p 10 (g .phase)) (g .reason))
-      (both rated spent (le→leb (s .command) (c .amperes) (g .most)) (go (between 6 7 p) refl)))
-      (both (volts && none) some
-      (both volts none (g .threshold)
-      (imp-of (eqb p handshake) (eqb t 0) (λ e. holds (eqb t 0) (eq-eqb t 0 (g .unkept (eqb→eq p handshake e))))))
+      and-i (leb p 10 && known && (rated && spent)) (volts && none && some)
+      (and-i (leb p 10 && known) (rated && spent) (and-i (leb p 10) known (le→leb p 10 (g .phase)) (g .reason))
+      (and-i rated spent (le→leb (s .command) (c .amperes) (g .most)) (go (between 6 7 p) refl)))
+      (and-i (volts && none) some
+      (and-i volts none (g .threshold)
+      (imp-of (eqb p handshake) (eqb t 0) (λ e. holds (eq-eqb t 0 (g .unkept (eqb→eq p handshake e))))))
       (imp-of (between 2 7 p) (not (eqb t 0)) (λ w. not-T (eqb t 0) (λ e. g .kept w (eqb→eq t 0 e)))))
     where
       go : (b : Bool) → between 6 7 p ≡ b → T (b || eqb (s .command) 0)
       go true e = tt
-      go false e = holds (eqb (s .command) 0) (eq-eqb (s .command) 0 (g .unpowered (λ w. subst T e w)))
+      go false e = holds (eq-eqb (s .command) 0 (g .unpowered (λ w. subst T e w)))
 
 -- a blank lead in a phase in which no threshold is kept yet
 module _ (c : Ratings) where
@@ -155,7 +157,7 @@ module _
 
   seen-both : T (car .battery .seen && car .status .seen)
   seen-both =
-      both (car .battery .seen) (car .status .seen)
+      and-i (car .battery .seen) (car .status .seen)
       (and-l (car .battery .seen) (car .time .seen) (and-l (car .battery .seen && car .time .seen) (car .status .seen) seen-all))
       (and-r (car .battery .seen && car .time .seen) (car .status .seen) seen-all)
 
@@ -190,7 +192,7 @@ module _ (c : Ratings) (i : Input) (s : Lead) (wide : 50 ≤ c .volts) (g : Good
   moved-on e w =
       mp (eqb before 1 && between 2 7 q) (eqb q 2 && isPass (verdict c i s) && may c i s)
       (phases.from-1 before (g .phase) (verdict c i s) (may c i s))
-      (both (eqb before 1) (between 2 7 q) (holds (eqb before 1) (eq-eqb before 1 e)) w)
+      (and-i (eqb before 1) (between 2 7 q) (holds (eq-eqb before 1 e)) w)
 
   -- the move from 1 to 2 keeps a threshold from 50 to the rated volts
   keeps : before ≡ 1 → T (between 2 7 q) → (q ≡ 2) × ((50 ≤ thresholdNow c h) × (thresholdNow c h ≤ c .volts))
@@ -214,8 +216,8 @@ module _ (c : Ratings) (i : Input) (s : Lead) (wide : 50 ≤ c .volts) (g : Good
     where
       go : (b : Bool) → keeping ≡ b → T (eqb (decide c i s .threshold) 0 || between 50 (c .volts) (decide c i s .threshold))
       go true e =
-          let was-1 : before ≡ 1 = eqb→eq before 1 (and-l (eqb before 1) (eqb q 2) (holds keeping e)) in
-          let now-2 : q ≡ 2 = eqb→eq q 2 (and-r (eqb before 1) (eqb q 2) (holds keeping e)) in
+          let was-1 : before ≡ 1 = eqb→eq before 1 (and-l (eqb before 1) (eqb q 2) (holds e)) in
+          let now-2 : q ≡ 2 = eqb→eq q 2 (and-r (eqb before 1) (eqb q 2) (holds e)) in
           let k = keeps was-1 (between-of 2 7 q (omega arith) (omega arith)) in
           let is : decide c i s .threshold ≡ thresholdNow c h = after true e in
           or-r (eqb (decide c i s .threshold) 0) (between 50 (c .volts) (decide c i s .threshold))
@@ -225,18 +227,18 @@ module _ (c : Ratings) (i : Input) (s : Lead) (wide : 50 ≤ c .volts) (g : Good
   unkept-after : q ≡ 1 → decide c i s .threshold ≡ 0
   unkept-after e =
       let not-kept : keeping ≡ false = is-false keeping (λ t. let two : q ≡ 2 = eqb→eq q 2 (and-r (eqb before 1) (eqb q 2) t) in omega arith) in
-      let one : T (eqb q 1) = holds (eqb q 1) (eq-eqb q 1 e) in
+      let one : T (eqb q 1) = holds (eq-eqb q 1 e) in
       after false not-kept
-      ∙ go one (or-cases (eqb before 0) (eqb before 1) (mp (eqb q 1) (eqb before 0 || eqb before 1) (phases.into-1 before (g .phase) (verdict c i s) (may c i s)) one))
+      ∙ go one (either (eqb before 0) (eqb before 1) (mp (eqb q 1) (eqb before 0 || eqb before 1) (phases.into-1 before (g .phase) (verdict c i s) (may c i s)) one))
     where
       go : T (eqb q 1) → T (eqb before 0) ⊎ T (eqb before 1) → s .threshold ≡ 0
-      go one (inl zero) = absurd (subst T off (both (eqb before 0) (eqb q 1) zero one))
+      go one (inl zero) = absurd (subst T off (and-i (eqb before 0) (eqb q 1) zero one))
       go one (inr was-1) = g .unkept (eqb→eq before 1 was-1)
 
   kept-after : T (between 2 7 q) → decide c i s .threshold ≡ 0 → ⊥
   kept-after w e =
       go
-      (or-cases (between 2 7 before) (eqb before 1 && may c i s)
+      (either (between 2 7 before) (eqb before 1 && may c i s)
       (mp (between 2 7 q) (between 2 7 before || eqb before 1 && may c i s) (phases.into-2-7 before (g .phase) (verdict c i s) (may c i s)) w))
     where
       go : T (between 2 7 before) ⊎ T (eqb before 1 && may c i s) → ⊥
@@ -288,8 +290,8 @@ module _ (c : Ratings) (i : Input) (s : Lead) (wide : 50 ≤ c .volts) where
     where
       go : (b : Bool) → start c i s ≡ b → Good c (decide c i s)
       go true e =
-          let was : s .stage .phase ≡ 0 = eqb→eq (s .stage .phase) 0 (and-l (eqb (s .stage .phase) 0) (eqb (phaseAfter c i s) 1) (holds (start c i s) e)) in
-          let is : phaseAfter c i s ≡ 1 = eqb→eq (phaseAfter c i s) 1 (and-r (eqb (s .stage .phase) 0) (eqb (phaseAfter c i s) 1) (holds (start c i s) e)) in
+          let was : s .stage .phase ≡ 0 = eqb→eq (s .stage .phase) 0 (and-l (eqb (s .stage .phase) 0) (eqb (phaseAfter c i s) 1) (holds e)) in
+          let is : phaseAfter c i s ≡ 1 = eqb→eq (phaseAfter c i s) 1 (and-r (eqb (s .stage .phase) 0) (eqb (phaseAfter c i s) 1) (holds e)) in
           rw (started c i s was is) (blank-good c 1 (omega arith))
       go false e = went-good c i s wide g e
 

@@ -10,7 +10,8 @@ use Rattle.lead.specs.Hearing.{hearStatus, silenceAfter, hearCar, hear}
 use Rattle.lead.specs.declared.state.Lead.{Lead}
 use Rattle.lead.specs.declared.state.KnownStatus.{KnownStatus}
 use Rattle.lead.specs.declared.state.Input.{Input}
-use Rattle.lead.proofs.Bools.{is-true, is-false}
+use Rattle.readings.proofs.Tests.{is-true}
+use Rattle.lead.proofs.Bools.{is-false}
 
 module _ (i : Input) (s : Lead) where
   pub hear-stage : hear i s .stage ≡ s .stage

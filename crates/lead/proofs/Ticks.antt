@@ -4,29 +4,27 @@ use mathlib.Core.Path.{_≡_, refl, sym}
 use Prim.Native.Nat.{ℕ, _≤_}
 use native.Mathlib.Omega.{arith}
 use lib.Dec.{T, leb, eqb, eqb→eq}
+use lib.Ieee.Fits.{and-r}
 use borrow.Author.Tests.{eq-eqb, ne-eqb}
 use Rattle.frames.specs.Heard.{signalsOf}
 use Rattle.lead.specs.Names.{between, handshake, locking}
 use Rattle.lead.specs.Hearing.{blank, hear}
-use Rattle.lead.specs.Questions.{dischargedVolts, residualAmperes, meterOf, isGiven, thresholdNow, viewOf, ask}
+use Rattle.lead.specs.Questions.{dischargedVolts, residualAmperes, meterOf, isGiven, thresholdNow, viewOf}
 use Rattle.lead.specs.Moves.{moves, mayMove, nextPhase, reasonAfter, ageAfter, goOn, advance, decide}
 use Rattle.lead.specs.declared.state.Lead.{Lead}
 use Rattle.lead.specs.declared.state.Car.{Car}
 use Rattle.lead.specs.declared.state.Ratings.{Ratings}
 use Rattle.lead.specs.declared.state.Input.{Input}
-use Rattle.lead.specs.declared.questions.Verdict.{Verdict}
-use Rattle.lead.proofs.Bools.{and-r, holds}
+use Rattle.readings.proofs.Tests.{holds}
+use Rattle.lead.proofs.Answers.{verdict}
 
 module _ (c : Ratings) (i : Input) (s : Lead) where
-  -- the verdict of the tick, whether it may move, the phase after it, and whether it starts the lead
-  abbrev pub verdict : Verdict
-  verdict = ask (viewOf c i (hear i s)) (hear i s)
-
+  -- whether the tick may move, the phase after it, and whether it starts the lead
   abbrev pub may : Bool
   may = mayMove (viewOf c i (hear i s)) (hear i s)
 
   abbrev pub phaseAfter : ℕ
-  phaseAfter = nextPhase (s .stage .phase) verdict may
+  phaseAfter = nextPhase (s .stage .phase) (verdict c i s) may
 
   abbrev pub start : Bool
   start = eqb (s .stage .phase) 0 && eqb phaseAfter 1
@@ -92,7 +90,7 @@ module _ (c : Ratings) (i : Input) (s : Lead) where
   decide-phase = go (start c i s) refl
     where
       go : (b : Bool) → start c i s ≡ b → decide c i s .stage .phase ≡ phaseAfter c i s
-      go true e = rw e (sym (eqb→eq (phaseAfter c i s) 1 (and-r (eqb (s .stage .phase) 0) (eqb (phaseAfter c i s) 1) (holds (start c i s) e))))
+      go true e = rw e (sym (eqb→eq (phaseAfter c i s) 1 (and-r (eqb (s .stage .phase) 0) (eqb (phaseAfter c i s) 1) (holds e))))
       go false e = rw e
 
 -- What a tick leaves of a lead that it does not start, and what it makes of the rest.

@@ -1,11 +1,12 @@
 -- A lead's whole tick, at any level: what the phase in which it ends says of the inputs and of the command. Assumes nothing.
-use mathlib.Core.Bool.{Bool, true, false, not, _&&_}
+use mathlib.Core.Bool.{Bool, not, _&&_}
 use mathlib.Core.Logic.{_⊎_, inl, inr}
-use mathlib.Core.Path.{_≡_, refl, ap, _∙_}
-use Prim.Native.Nat.{ℕ, suc, _+_, _-_, _≤_, _<_, min}
+use mathlib.Core.Path.{_≡_, ap, _∙_}
+use Prim.Native.Nat.{ℕ, _+_, _-_, _≤_, _<_, min}
 use native.Mathlib.Omega.{arith}
 use lib.Dec.{T, leb, ltb, eqb, leb→le, ltb→lt, eqb→eq}
-use borrow.Author.Tests.{leb-true, leb-false, eq-eqb}
+use lib.Ieee.Fits.{and-i, and-l, and-r}
+use borrow.Author.Tests.{eq-eqb}
 use Rattle.frames.specs.Heard.{signalsOf}
 use Rattle.lead.specs.Names.{between}
 use Rattle.lead.specs.Hearing.{hear}
@@ -17,20 +18,13 @@ use Rattle.lead.specs.declared.state.Car.{Car}
 use Rattle.lead.specs.declared.state.Ratings.{Ratings}
 use Rattle.lead.specs.declared.state.Input.{Input}
 use Rattle.lead.specs.declared.questions.Verdict.{Verdict}
-use Rattle.lead.proofs.Bools.{and-l, and-r, both, imp, mp, is-true, holds, between-of, between-lo, between-hi}
+use Rattle.readings.proofs.Tests.{holds, is-true}
+use Rattle.lead.proofs.Bools.{imp, mp, between-of, between-lo, between-hi, at-or-past}
 use Rattle.lead.proofs.Phases as phases
 use Rattle.lead.proofs.Phases.{isPass, isUrgent}
-use Rattle.lead.proofs.Answers.{UrgentYes, OrdinaryYes, urgent-yes, ordinary-yes}
-use Rattle.lead.proofs.Ticks.{verdict, may, phaseAfter, move-met, decide-phase, not-started, past-start}
+use Rattle.lead.proofs.Answers.{verdict, UrgentYes, OrdinaryYes, urgent-yes, ordinary-yes}
+use Rattle.lead.proofs.Ticks.{may, phaseAfter, move-met, decide-phase, not-started, past-start}
 use Rattle.lead.proofs.Commands.{command-stage, command-car, command-most, command-0, want-6, want-7}
-
--- from a on: a itself or later
-at-or-past : (a p : ℕ) → a ≤ p → (p ≡ a) ⊎ (suc a ≤ p)
-at-or-past a p h = go (leb p a) refl
-  where
-    go : (b : Bool) → leb p a ≡ b → (p ≡ a) ⊎ (suc a ≤ p)
-    go true e = let g : p ≤ a = leb-true p a e in inl (omega arith)
-    go false e = inr (leb-false p a e)
 
 abbrev pub ticked : Ratings → ℕ → Input → Lead → Lead
 ticked c level i s = commanded c level (decide c i s)
@@ -87,7 +81,7 @@ module _ (c : Ratings) (i : Input) (s : Lead) (p≤ : s .stage .phase ≤ 10) wh
       lock-of lo hi said (inr h) = said .lock-closed (between-of 3 7 p h hi)
       lock-of lo hi said (inl e) =
           let moved : T (eqb q 3 && m) =
-          mp (eqb p 2 && between 3 7 q) (eqb q 3 && m) (phases.from-2 p p≤ v m) (both (eqb p 2) (between 3 7 q) (holds (eqb p 2) (eq-eqb p 2 e)) w) in
+          mp (eqb p 2 && between 3 7 q) (eqb q 3 && m) (phases.from-2 p p≤ v m) (and-i (eqb p 2) (between 3 7 q) (holds (eq-eqb p 2 e)) w) in
           move-met c i s (and-r (eqb q 3) m moved) .out-of-2 e
 
   -- a tick that ends in 3 to 7 and began in 2 moves to 3; one that ends in 4 to 7 began in 3 to 7, and moves to 4 where it began in 3
@@ -95,7 +89,7 @@ module _ (c : Ratings) (i : Input) (s : Lead) (p≤ : s .stage .phase ≤ 10) wh
   out-of-2 w e =
       eqb→eq q 3
       (and-l (eqb q 3) m
-      (mp (eqb p 2 && between 3 7 q) (eqb q 3 && m) (phases.from-2 p p≤ v m) (both (eqb p 2) (between 3 7 q) (holds (eqb p 2) (eq-eqb p 2 e)) w)))
+      (mp (eqb p 2 && between 3 7 q) (eqb q 3 && m) (phases.from-2 p p≤ v m) (and-i (eqb p 2) (between 3 7 q) (holds (eq-eqb p 2 e)) w)))
 
   past-3 : T (between 4 7 q) → T (between 3 7 p && imp (eqb p 3) (eqb q 4))
   past-3 w = mp (between 4 7 q) (between 3 7 p && imp (eqb p 3) (eqb q 4)) (phases.into-4-7 p p≤ v m) w
@@ -104,12 +98,12 @@ module _ (c : Ratings) (i : Input) (s : Lead) (p≤ : s .stage .phase ≤ 10) wh
   began-3-7 w = and-l (between 3 7 p) (imp (eqb p 3) (eqb q 4)) (past-3 w)
 
   pub out-of-3 : T (between 4 7 q) → p ≡ 3 → q ≡ 4
-  out-of-3 w e = eqb→eq q 4 (mp (eqb p 3) (eqb q 4) (and-r (between 3 7 p) (imp (eqb p 3) (eqb q 4)) (past-3 w)) (holds (eqb p 3) (eq-eqb p 3 e)))
+  out-of-3 w e = eqb→eq q 4 (mp (eqb p 3) (eqb q 4) (and-r (between 3 7 p) (imp (eqb p 3) (eqb q 4)) (past-3 w)) (holds (eq-eqb p 3 e)))
 
   -- a tick that ends in 6
   module _ (six : q ≡ 6) where
     came : T (between 5 6 p && isPass v && imp (eqb p 5) m)
-    came = mp (eqb q 6) (between 5 6 p && isPass v && imp (eqb p 5) m) (phases.into-6 p p≤ v m) (holds (eqb q 6) (eq-eqb q 6 six))
+    came = mp (eqb q 6) (between 5 6 p && isPass v && imp (eqb p 5) m) (phases.into-6 p p≤ v m) (holds (eq-eqb q 6 six))
 
     early : T (between 5 6 p && isPass v)
     early = and-l (between 5 6 p && isPass v) (imp (eqb p 5) m) came
@@ -130,7 +124,7 @@ module _ (c : Ratings) (i : Input) (s : Lead) (p≤ : s .stage .phase ≤ 10) wh
     in-bracket first h = between-of first 6 p (omega (arith, lo)) hi
 
     contactor : (p ≡ 5) ⊎ (6 ≤ p) → T (signalsOf (hear i s .car .status .value) .closed)
-    contactor (inl e) = move-met c i s (mp (eqb p 5) m (and-r (between 5 6 p && isPass v) (imp (eqb p 5) m) came) (holds (eqb p 5) (eq-eqb p 5 e))) .out-of-5 e
+    contactor (inl e) = move-met c i s (mp (eqb p 5) m (and-r (between 5 6 p && isPass v) (imp (eqb p 5) m) came) (holds (eq-eqb p 5 e))) .out-of-5 e
     contactor (inr h) = passed .contactor-closed (between-of 6 6 p h hi)
 
     pub ends-permitted : Permitted s (hear i s .car)
@@ -177,7 +171,7 @@ module _ (c : Ratings) (i : Input) (s : Lead) (p≤ : s .stage .phase ≤ 10) wh
     pub ticked-7 : q ≡ 7 → ticked c level i s .command ≤ s .command - 10
     ticked-7 seven =
         let most : ticked c level i s .command ≤ wanted c (decide c i s) = command-most c level (decide c i s) in
-        let began : T (between 6 7 p) = mp (eqb q 7) (between 6 7 p) (phases.into-7 p p≤ v m) (holds (eqb q 7) (eq-eqb q 7 seven)) in
+        let began : T (between 6 7 p) = mp (eqb q 7) (between 6 7 p) (phases.into-7 p p≤ v m) (holds (eq-eqb q 7 seven)) in
         let low : 6 ≤ p = between-lo 6 7 p began in
         let same : decide c i s .command ≡ s .command = kept (omega arith) (between-of 6 7 q (omega arith) (omega arith)) in
         let is : wanted c (decide c i s) ≡ decide c i s .command - 10 = want-7 c (decide c i s) (decide-phase c i s ∙ seven) in

@@ -4,10 +4,10 @@ mod good;
 mod hearing;
 mod moves;
 mod names;
+mod numbers;
 mod power;
 mod questions;
 mod state;
-mod tables;
 
 pub use names::Phase;
 pub use names::Reason;

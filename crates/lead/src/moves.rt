@@ -1,14 +1,14 @@
 // Moves, and where a stop leads: a lead's tick but for its command.
 use super::names::Phase;
 use super::names::Reason;
+use super::numbers::at_phase;
+use super::numbers::holds_at;
 use super::questions::Verdict;
 use super::questions::View;
 use super::state::Input;
 use super::state::Lead;
 use super::state::Ratings;
 use super::state::Stage;
-use super::tables::at_phase;
-use super::tables::holds_at;
 use readings::STEPS_PER_UNIT;
 ghost use mathlib.Core.Path.{_≡_};
 ghost use mathlib.Core.Bool.{cond};

@@ -1,27 +1,11 @@
 // What a lead wants of the post's power, and the command that a level gives it.
 use super::names::Phase;
+use super::numbers::lesser;
 use super::state::Lead;
 use super::state::Ratings;
 ghost use mathlib.Core.Path.{_≡_};
-ghost use Prim.Native.Nat.{_+_, _-_, _*_, _/_, min};
+ghost use Prim.Native.Nat.{_-_, _*_, _/_, min};
 ghost use Rattle.lead.specs.Power.{wanted, wantedWatts, commanded};
-
-// At most 2 A above the command.
-fn raised(command: u8, most: u8) -> u8
-    ensures { λ r. ⌜ r ≡ min most (command + 2) ⌝ }
-{
-    if (command as u16) + 2 < (most as u16) {
-        command + 2
-    } else {
-        most
-    }
-}
-
-fn lesser(a: u8, b: u8) -> u8
-    ensures { λ r. ⌜ r ≡ min a b ⌝ }
-{
-    if a < b { a } else { b }
-}
 
 // 10 A below the command, at least 0.
 fn lowered(command: u8) -> u8
@@ -56,10 +40,9 @@ impl Lead {
     {
         let phase = self.stage.phase;
         if phase == Phase::CHARGING {
-            return raised(
-                self.command,
-                lesser(self.car.status.value.request, ratings.amperes),
-            );
+            let request = self.car.status.value.request;
+            let most = lesser(request as u16, ratings.amperes as u16);
+            return lesser(most, (self.command as u16) + 2) as u8;
         }
         if phase == Phase::RAMP_DOWN {
             return lowered(self.command);

@@ -1,18 +1,18 @@
 // The nineteen stop questions, and the first no.
 use super::names::Phase;
 use super::names::Reason;
+use super::numbers::at_phase;
+use super::numbers::lesser;
 use super::state::Contacts;
 use super::state::Input;
 use super::state::Lead;
 use super::state::Ratings;
-use super::tables::at_phase;
 use frames::VehicleSignals;
 use readings::Judged;
 use readings::Reading;
 use readings::STEPS_PER_UNIT;
 use readings::is_insulated;
 ghost use mathlib.Core.Path.{_≡_};
-ghost use Prim.Native.Nat.{min};
 ghost use Rattle.lead.specs.Questions.{meterOf, isGiven, thresholdNow, viewOf, questions, isNo, stopOf, firstNo, ask, numberOf};
 
 // The figures of a good reading, in steps.
@@ -207,10 +207,4 @@ impl Lead {
     {
         first_no(self.stage.phase, self.questions(view))
     }
-}
-
-fn lesser(a: u16, b: u16) -> u16
-    ensures { λ r. ⌜ r ≡ min a b ⌝ }
-{
-    if a < b { a } else { b }
 }

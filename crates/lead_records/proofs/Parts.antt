@@ -13,5 +13,9 @@ module _ (b : List ℕ) (at : ℕ) where
 
   pub u32-part : u32At (take 4 (drop at b)) 0 ≡ u32At b at
   u32-part =
-      rw
-      (byte 0 at (omega arith) (omega arith), byte 1 (at + 1) (omega arith) (omega arith), byte 2 (at + 2) (omega arith) (omega arith), byte 3 (at + 2 + 1) (omega arith) (omega arith))
+      rw (
+        byte 0 at (omega arith) (omega arith),
+        byte 1 (at + 1) (omega arith) (omega arith),
+        byte 2 (at + 2) (omega arith) (omega arith),
+        byte 3 (at + 2 + 1) (omega arith) (omega arith),
+      )

@@ -7,6 +7,7 @@ use Prim.Native.Nat.{ℕ, _+_, _-_, _≤_, _<_}
 use native.Mathlib.Omega.{arith}
 use lib.Dec.{T, leb, eqb, leb→le, eqb→eq}
 use lib.ListN.{length, getD, drop, replicate, length-drop}
+use lib.Ieee.Fits.{and-l, and-r}
 use Rattle.little_endian.specs.Numbers.{byteAt, u16At, lowByte, highByte}
 use Rattle.little_endian.specs.Flags.{bitAt, byteOf}
 use Rattle.lead.specs.Good.{goodLead}
@@ -14,28 +15,28 @@ use Rattle.lead.specs.declared.state.Lead.{Lead}
 use Rattle.lead.specs.declared.state.Ratings.{Ratings}
 use Rattle.little_endian.proofs.Spelled.{spelled-is}
 use Rattle.little_endian.proofs.Bytes.{u16-back, u32-back, low-byte-back, high-byte-back, low-half-back, high-half-back}
-use Rattle.lead.proofs.Bools.{and-l, and-r, upTo-at}
+use Rattle.lead.proofs.Bools.{upTo-at}
 use Rattle.lead_records.specs.States.{stateSize, spareFrom, spareBytes, unusedClear, decode, encode, allZero, goodState}
 
--- the three bits of the byte of frames seen
-seen-back :
+-- the three bits of the byte of frames seen, and that it has no others
+seen-byte :
     (a b c : Bool)
     → let x = byteOf (a ∷ b ∷ c ∷ []) in
-    (bitAt 0 x ≡ a) × ((bitAt 1 x ≡ b) × (bitAt 2 x ≡ c))
-seen-back true true true = (refl, (refl, refl))
-seen-back true true false = (refl, (refl, refl))
-seen-back true false true = (refl, (refl, refl))
-seen-back true false false = (refl, (refl, refl))
-seen-back false true true = (refl, (refl, refl))
-seen-back false true false = (refl, (refl, refl))
-seen-back false false true = (refl, (refl, refl))
-seen-back false false false = (refl, (refl, refl))
+    (bitAt 0 x ≡ a) × ((bitAt 1 x ≡ b) × ((bitAt 2 x ≡ c) × (leb x 7 ≡ true)))
+seen-byte true true true = (refl, (refl, (refl, refl)))
+seen-byte true true false = (refl, (refl, (refl, refl)))
+seen-byte true false true = (refl, (refl, (refl, refl)))
+seen-byte true false false = (refl, (refl, (refl, refl)))
+seen-byte false true true = (refl, (refl, (refl, refl)))
+seen-byte false true false = (refl, (refl, (refl, refl)))
+seen-byte false false true = (refl, (refl, (refl, refl)))
+seen-byte false false false = (refl, (refl, (refl, refl)))
 
 pub decode-encode : (s : Lead) → decode (encode s) ≡ s
 unfolding decode encode
 decode-encode s =
     let car = s .car in
-    let seen = seen-back (car .battery .seen) (car .time .seen) (car .status .seen) in
+    let seen = seen-byte (car .battery .seen) (car .time .seen) (car .status .seen) in
     rw (
       u16-back (s .threshold),
       u16-back (car .battery .maximum),
@@ -43,7 +44,7 @@ decode-encode s =
       u32-back (s .stage .age),
       seen .0,
       seen .1 .0,
-      seen .1 .1,
+      seen .1 .1 .0,
     )
 
 seen-again : (x : ℕ) → x ≤ 7 → byteOf (bitAt 0 x ∷ bitAt 1 x ∷ bitAt 2 x ∷ []) ≡ x
@@ -56,51 +57,45 @@ zeros [] t = refl
 zeros (x ∷ l) t =
     rw (eqb→eq x 0 (and-l (eqb x 0) (allZero l) t)) (ap (λ r. 0 ∷ r) (zeros l (and-r (eqb x 0) (allZero l) t)))
 
-module _ (b : List ℕ) (long : length b ≡ stateSize) where
-  module _ (small : (n : ℕ) → getD b n 0 < 256) (clear : T (unusedClear b)) where
-    spare-zero : drop spareFrom b ≡ spareBytes
-    spare-zero = let rest : length (drop spareFrom b) ≡ 12 = length-drop spareFrom b ∙ ap (λ n. n - spareFrom) long in rw rest at (zeros (drop spareFrom b) (and-r (leb (byteAt b 7) 7) (allZero (drop spareFrom b)) clear))
+module _ (b : List ℕ) (long : length b ≡ stateSize) (small : (n : ℕ) → getD b n 0 < 256) (clear : T (unusedClear b)) where
+  abbrev few : Bool
+  few = leb (byteAt b 7) 7
 
-    low : (n : ℕ) → lowByte (u16At b n) ≡ getD b n 0
-    low n = low-byte-back (getD b n 0) (getD b (n + 1) 0) (small n)
+  spare-zero : drop spareFrom b ≡ spareBytes
+  spare-zero =
+      let rest : length (drop spareFrom b) ≡ stateSize - spareFrom = length-drop spareFrom b ∙ ap (λ n. n - spareFrom) long in
+      rw rest at (zeros (drop spareFrom b) (and-r few (allZero (drop spareFrom b)) clear))
 
-    high : (n : ℕ) → highByte (u16At b n) ≡ getD b (n + 1) 0
-    high n = high-byte-back (getD b n 0) (getD b (n + 1) 0) (small n)
+  low : (n : ℕ) → lowByte (u16At b n) ≡ getD b n 0
+  low n = low-byte-back (getD b n 0) (getD b (n + 1) 0) (small n)
 
-    half-small : u16At b 16 < 65536
-    half-small = omega (arith, small 16, small 17)
+  high : (n : ℕ) → highByte (u16At b n) ≡ getD b (n + 1) 0
+  high n = high-byte-back (getD b n 0) (getD b (n + 1) 0) (small n)
 
-    -- the other way round, for bytes whose unused bits and bytes are clear, as those of every good state are
-    pub encode-decode : encode (decode b) ≡ b
-    unfolding encode decode
-    encode-decode =
-        rw (
-          low-half-back (u16At b 16) (u16At b 18) half-small,
-          high-half-back (u16At b 16) (u16At b 18) half-small,
-          low 8,
-          high 8,
-          low 10,
-          high 10,
-          low 12,
-          high 12,
-          low 16,
-          high 16,
-          low 18,
-          high 18,
-          seen-again (getD b 7 0) (leb→le (byteAt b 7) 7 (and-l (leb (byteAt b 7) 7) (allZero (drop spareFrom b)) clear)),
-          ← spare-zero,
-        )
-        (spelled-is 0 b spareFrom 0 (omega arith))
+  half-small : u16At b 16 < 65536
+  half-small = omega (arith, small 16, small 17)
 
-seen-small : (a b c : Bool) → leb (byteOf (a ∷ b ∷ c ∷ [])) 7 ≡ true
-seen-small true true true = refl
-seen-small true true false = refl
-seen-small true false true = refl
-seen-small true false false = refl
-seen-small false true true = refl
-seen-small false true false = refl
-seen-small false false true = refl
-seen-small false false false = refl
+  -- the other way round, for bytes whose unused bits and bytes are clear, as those of every good state are
+  pub encode-decode : encode (decode b) ≡ b
+  unfolding encode decode
+  encode-decode =
+      rw (
+        low-half-back (u16At b 16) (u16At b 18) half-small,
+        high-half-back (u16At b 16) (u16At b 18) half-small,
+        low 8,
+        high 8,
+        low 10,
+        high 10,
+        low 12,
+        high 12,
+        low 16,
+        high 16,
+        low 18,
+        high 18,
+        seen-again (getD b 7 0) (leb→le (byteAt b 7) 7 (and-l few (allZero (drop spareFrom b)) clear)),
+        ← spare-zero,
+      )
+      (spelled-is 0 b spareFrom 0 (omega arith))
 
 module _ (s : Lead) where
   pub encode-length : length (encode s) ≡ stateSize
@@ -109,7 +104,7 @@ module _ (s : Lead) where
 
   encode-seen : leb (byteAt (encode s) 7) 7 ≡ true
   unfolding encode
-  encode-seen = seen-small (s .car .battery .seen) (s .car .time .seen) (s .car .status .seen)
+  encode-seen = seen-byte (s .car .battery .seen) (s .car .time .seen) (s .car .status .seen) .1 .1 .1
 
   encode-spare : allZero (drop spareFrom (encode s)) ≡ true
   unfolding encode

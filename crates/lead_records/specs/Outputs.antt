@@ -17,6 +17,7 @@ use Rattle.frames.specs.declared.sent.Report.{Report}
 use Rattle.lead.specs.Names.{between, insulationTest, charging, groundFault, badReading, unlocked, carSilent, incompatibleVoltage, lowInsulation, phaseTimeout}
 use Rattle.lead.specs.declared.state.Lead.{Lead}
 use Rattle.lead.specs.declared.state.Ratings.{Ratings}
+use Rattle.lead_records.specs.declared.outputs.Figures.{Figures}
 
 -- "Output, 24 a lead"
 abbrev pub outputSize : ℕ
@@ -54,20 +55,16 @@ remainingOf s =
     (bytesOf 0 0)
 
 -- "Without a good reading 1–3 are 0."
-abbrev pub shownVolts : Judged → ℕ
-shownVolts (Good volts amperes) = wholeUnits volts
-shownVolts Bad = 0
-
-abbrev pub shownAmperes : Judged → ℕ
-shownAmperes (Good volts amperes) = wholeUnits amperes
-shownAmperes Bad = 0
+abbrev pub figuresOf : Judged → Figures
+figuresOf (Good volts amperes) = record { volts = wholeUnits volts; amperes = wholeUnits amperes }
+figuresOf Bad = record { volts = 0; amperes = 0 }
 
 -- what H'109 reports
 unfoldable pub reportOf : Bool → Judged → Lead → Report
 reportOf lock reading s =
     record {
-      volts = shownVolts reading;
-      amperes = shownAmperes reading;
+      volts = figuresOf reading .volts;
+      amperes = figuresOf reading .amperes;
       flags = flagsOf lock (s .stage .phase) (s .stage .reason);
       remaining = remainingOf s;
     }

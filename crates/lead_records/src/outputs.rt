@@ -18,9 +18,16 @@ use readings::whole_units;
 ghost use mathlib.Core.Path.{_≡_};
 ghost use mathlib.Core.List.{_++_};
 ghost use Rattle.frames.specs.Sent.{offerBytes, reportBytes};
-ghost use Rattle.lead_records.specs.Outputs.{controls, testVolts, offerOf, flagsOf, remainingOf, shownVolts, shownAmperes, reportOf, whileSending, shownBytes, outputOf};
+ghost use Rattle.lead_records.specs.Outputs.{controls, testVolts, offerOf, flagsOf, remainingOf, figuresOf, reportOf, whileSending, shownBytes, outputOf};
 
+// The output's size.
 pub struct OutputRecord;
+
+// Volts and amperes as H'109 shows them.
+struct Figures {
+    volts: u16,
+    amperes: u16,
+}
 
 impl OutputRecord {
     pub const SIZE: usize = 24;
@@ -48,11 +55,10 @@ impl OutputRecord {
     fn flags(lock: bool, phase: u8, reason: u8) -> ChargerFlags
         ensures { λ r. ⌜ r ≡ flagsOf lock phase reason ⌝ }
     {
-        let electrical = (Reason::BAD_READING <= reason) & (reason <= Reason::UNLOCKED);
         ChargerFlags {
             charging: (Phase::CHARGING <= phase) & (phase <= Phase::RAMP_DOWN),
             malfunction: (reason == Reason::GROUND_FAULT)
-                | electrical
+                | ((Reason::BAD_READING <= reason) & (reason <= Reason::UNLOCKED))
                 | (reason == Reason::LOW_INSULATION),
             locked: lock,
             incompatible: reason == Reason::INCOMPATIBLE_VOLTAGE,
@@ -79,21 +85,18 @@ impl OutputRecord {
         }
     }
 
-    fn volts(reading: Judged) -> u16
-        ensures { λ r. ⌜ r ≡ shownVolts reading ⌝ }
+    fn figures(reading: Judged) -> Figures
+        ensures { λ r. ⌜ r ≡ figuresOf reading ⌝ }
     {
         match reading {
-            Judged::Good { volts, amperes: _ } => whole_units(volts),
-            Judged::Bad => 0,
-        }
-    }
-
-    fn amperes(reading: Judged) -> u16
-        ensures { λ r. ⌜ r ≡ shownAmperes reading ⌝ }
-    {
-        match reading {
-            Judged::Good { volts: _, amperes } => whole_units(amperes),
-            Judged::Bad => 0,
+            Judged::Good { volts, amperes } => Figures {
+                volts: whole_units(volts),
+                amperes: whole_units(amperes),
+            },
+            Judged::Bad => Figures {
+                volts: 0,
+                amperes: 0,
+            },
         }
     }
 
@@ -113,9 +116,10 @@ impl OutputRecord {
     fn report(lock: bool, reading: Judged, lead: Lead) -> [u8; 8]
         ensures { λ r. ⌜ r ≡ reportBytes (reportOf lock reading lead) ⌝ }
     {
+        let figures = OutputRecord::figures(reading);
         let report = Report {
-            volts: OutputRecord::volts(reading),
-            amperes: OutputRecord::amperes(reading),
+            volts: figures.volts,
+            amperes: figures.amperes,
             flags: OutputRecord::flags(lock, lead.stage.phase, lead.stage.reason),
             remaining: OutputRecord::remaining(lead),
         };

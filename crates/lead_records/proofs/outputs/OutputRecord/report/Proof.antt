@@ -8,9 +8,9 @@ returns : tie.Need-returns
 unfolding reportOf
 returns c =
     let k = c .before .before in
-    rw (c .bytes .ensures, c .before .remaining .ensures, k .flags .ensures, k .before .amperes .ensures, k .before .before .volts .ensures)
+    rw (c .bytes .ensures, c .before .remaining .ensures, k .flags .ensures, k .before .figures .ensures)
 
 pub report-spec : {M : Type 1} → statement M
 report-spec =
     tie.close
-    (tie.spec (search needs) (search needs) (search needs) (search needs) (search needs) returns)
+    (tie.spec (search needs) (search needs) (search needs) (search needs) returns)
