@@ -2,4 +2,3 @@ pub mod Records
 pub mod Times
 pub mod Heard
 pub mod Sent
-pub mod Starred

@@ -1,3 +1,2 @@
 pub mod Value
 pub mod Readings
-pub mod Starred

@@ -84,3 +84,14 @@ level-fewer n m wants limit g h = largest-same (fits m wants limit) (fits n want
 
     same : (l : ℕ) → given m wants l ≡ given n wants l
     same l = ap (λ (x : ℕ). given x wants l) whole ∙ given-fewer n (m - n) wants l h
+
+-- the level looks at the places' wants alone
+given-same : (n : ℕ) (v w : ℕ → ℕ) (l : ℕ) → ((k : ℕ) → k < n → v k ≡ w k) → given n v l ≡ given n w l
+unfolding given
+given-same zero v w l h = refl
+given-same (suc n) v w l h = rw (given-same n v w l (λ k x. h k (omega arith)), h n (omega arith))
+
+pub level-same : (n : ℕ) (v w : ℕ → ℕ) (limit : ℕ) → ((k : ℕ) → k < n → v k ≡ w k) → levelOf n v limit ≡ levelOf n w limit
+unfolding levelOf
+level-same n v w limit h =
+    largest-same (fits n v limit) (fits n w limit) (λ l. ap (λ (x : ℕ). leb x limit) (given-same n v w l h)) limit

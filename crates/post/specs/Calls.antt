@@ -1,0 +1,53 @@
+-- Document 01, 'The post's two calls': the number that each call returns, and every byte that it leaves. Definitions only.
+use mathlib.Core.Bool.{cond}
+use mathlib.Core.List.{List, _++_}
+use Prim.Native.Nat.{ℕ}
+use lib.Dec.{eqb}
+use lib.ListN.{length, take}
+use Rattle.lead.specs.Hearing.{fresh}
+use Rattle.lead.specs.declared.state.Lead.{Lead}
+use Rattle.lead_records.specs.States.{stateSize, decode, encode}
+use Rattle.post.specs.Parts.{part, joined}
+use Rattle.post.specs.Heads.{headSize, headFrom, headOf}
+use Rattle.post.specs.Rules.{leadAfter, postBytes, shownBytes}
+use Rattle.post.specs.Refusals.{setupRefusal, tickRefusal}
+
+-- what setup leaves of its state
+pub record SetUp : Type 0 where
+  pub number : ℕ
+  pub state : List ℕ
+
+-- "Setup writes a fresh state: the head as given, the resistance's bits kept even for minus zero, phase 0, other lead bytes 0."
+-- A refusal changes no byte.
+unfoldable pub setupOf : ℕ → ℕ → ℕ → ℕ → List ℕ → SetUp
+setupOf leads volts amperes resistance state =
+    let refusal : ℕ = setupRefusal leads volts amperes resistance (length state) in
+    cond (eqb refusal 0)
+    (record { number = 0; state = postBytes (headFrom leads volts amperes resistance) (λ k. fresh) })
+    (record { number = refusal; state = state })
+
+-- lead k, read from the state
+unfoldable pub leadsOf : List ℕ → ℕ → Lead
+leadsOf state k = decode (part headSize stateSize k state)
+
+-- the post's leads after the tick
+abbrev pub leadsAfter : List ℕ → List ℕ → ℕ → Lead
+leadsAfter state input = leadAfter (headOf state) input (leadsOf state)
+
+-- what a tick leaves of its state and its output
+pub record Ticked : Type 0 where
+  pub number : ℕ
+  pub state : List ℕ
+  pub output : List ℕ
+
+-- The head stays as it is; each lead's record and what it shows are written. A refusal changes no byte.
+unfoldable pub tickOf : List ℕ → List ℕ → List ℕ → Ticked
+tickOf state input output =
+    let refusal : ℕ = tickRefusal state input (length output) in
+    cond (eqb refusal 0)
+    (record {
+      number = 0;
+      state = take headSize state ++ joined (headOf state .leads) (λ k. encode (leadsAfter state input k));
+      output = shownBytes (headOf state) input (leadsAfter state input);
+    })
+    (record { number = refusal; state = state; output = output })

@@ -1,0 +1,37 @@
+-- Document 01, 'The post's two calls': the head of the state, and the lengths of state, input and output. Definitions only.
+use mathlib.Core.List.{List, [], _∷_, _++_}
+use Prim.Native.Nat.{ℕ, _+_, _*_}
+use Rattle.little_endian.specs.Numbers.{byteAt, u16At, u32At, u16Bytes, u32Bytes}
+use Rattle.lead_records.specs.States.{stateSize}
+use Rattle.lead_records.specs.Inputs.{inputSize}
+use Rattle.lead_records.specs.Outputs.{outputSize}
+use Rattle.post.specs.declared.head.Head.{Head}
+
+-- "State: 8 bytes (…), then 32 a lead"
+abbrev pub headSize : ℕ
+headSize = 8
+
+-- "Input: allowance (4), then 104 a lead"
+abbrev pub limitSize : ℕ
+limitSize = 4
+
+abbrev pub stateLength : ℕ → ℕ
+stateLength leads = headSize + stateSize * leads
+
+abbrev pub inputLength : ℕ → ℕ
+inputLength leads = limitSize + inputSize * leads
+
+abbrev pub outputLength : ℕ → ℕ
+outputLength leads = outputSize * leads
+
+-- the numbers that setup is given, in its order
+abbrev pub headFrom : ℕ → ℕ → ℕ → ℕ → Head
+headFrom leads volts amperes resistance =
+    record { leads = leads; ratings = record { volts = volts; amperes = amperes; resistance = resistance } }
+
+-- "leads; rated amperes; rated volts, 2; resistance as float, 4"
+unfoldable pub headOf : List ℕ → Head
+headOf state = headFrom (byteAt state 0) (u16At state 2) (byteAt state 1) (u32At state 4)
+
+unfoldable pub headBytes : Head → List ℕ
+headBytes h = (h .leads ∷ h .ratings .amperes ∷ []) ++ u16Bytes (h .ratings .volts) ++ u32Bytes (h .ratings .resistance)

@@ -1,0 +1,8 @@
+-- Demand 3 over the trace of document 01's rules: what one tick does to one lead, then a file for each claim, and the demand from them all.
+pub mod Steps
+pub mod Closed
+pub mod Heard
+pub mod Raises
+pub mod Shares
+pub mod Zeros
+pub mod OverRules

@@ -1,0 +1,3 @@
+pub mod Lists
+pub mod Trace
+pub mod Demand3

@@ -1,0 +1,46 @@
+-- Lists of the host's calls, carried out by `setupOf` and `tickOf`, which the contracts of the two exported functions name. Definitions only.
+use mathlib.Core.Bool.{cond}
+use mathlib.Core.List.{List, [], _∷_}
+use Prim.Native.Nat.{ℕ}
+use lib.Dec.{eqb}
+use Rattle.post.specs.Calls.{SetUp, setupOf, Ticked, tickOf}
+
+-- a call, with the bytes that it lends: any numbers, any bytes, any lengths
+pub data Call : Type 0 where
+  setup : (leads volts amperes resistance : ℕ) (buffer : List ℕ) → Call
+  tick : (input output : List ℕ) → Call
+
+-- what a call returns and leaves: the post's state, and the call's own buffer (a setup's, or a tick's output)
+pub record Answer : Type 0 where
+  pub number : ℕ
+  pub state : List ℕ
+  pub lent : List ℕ
+
+-- Accepted, a setup's buffer becomes the state; refused, the post keeps its state.
+unfoldable pub answer : List ℕ → Call → Answer
+answer state (setup leads volts amperes resistance buffer) =
+    let done : SetUp = setupOf leads volts amperes resistance buffer in
+    record { number = done .number; state = cond (eqb (done .number) 0) (done .state) state; lent = done .state }
+answer state (tick input output) =
+    let done : Ticked = tickOf state input output in
+    record { number = done .number; state = done .state; lent = done .output }
+
+-- "Each tick gets the state as the one before left it; nobody else writes it."
+unfoldable pub answers : List ℕ → List Call → List Answer
+answers state [] = []
+answers state (call ∷ calls) = answer state call ∷ answers (answer state call .state) calls
+
+-- a tick that returned 0: its input, and its output after it
+pub record Tick : Type 0 where
+  pub input : List ℕ
+  pub output : List ℕ
+
+-- The ticks of a list that demand 3 counts: "refused ones may stand anywhere in it and aren't counted"; "an accepted setup begins a
+-- new list", so this one ends there.
+unfoldable pub ticksOf : List ℕ → List Call → List Tick
+ticksOf state [] = []
+ticksOf state (setup leads volts amperes resistance buffer ∷ calls) =
+    cond (eqb (setupOf leads volts amperes resistance buffer .number) 0) [] (ticksOf state calls)
+ticksOf state (tick input output ∷ calls) =
+    let done : Ticked = tickOf state input output in
+    cond (eqb (done .number) 0) (record { input = input; output = done .output } ∷ ticksOf (done .state) calls) (ticksOf (done .state) calls)

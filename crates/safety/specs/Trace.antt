@@ -1,0 +1,56 @@
+-- What document 01's rules give for a list of calls: their own trace, which knows nothing of `setupOf`, `tickOf` or the bytes that these
+-- leave. Definitions only.
+use mathlib.Core.Bool.{cond}
+use mathlib.Core.List.{List, [], _∷_}
+use Prim.Native.Nat.{ℕ}
+use lib.Dec.{eqb}
+use lib.ListN.{length}
+use Rattle.lead.specs.Hearing.{fresh}
+use Rattle.lead.specs.declared.state.Lead.{Lead}
+use Rattle.post.specs.Heads.{headFrom, headOf}
+use Rattle.post.specs.Rules.{leadAfter, postBytes, shownBytes}
+use Rattle.post.specs.Refusals.{setupRefusal, goodPost, inputRefusal}
+use Rattle.post.specs.Calls.{leadsOf}
+use Rattle.post.specs.declared.head.Head.{Head}
+use Rattle.safety.specs.Lists.{Call, setup, tick, Answer}
+
+-- what the rules keep from call to call: a post, or, until a setup is accepted, bytes that are no good state
+pub data Kept : Type 0 where
+  post : Head → (ℕ → Lead) → Kept
+  unusable : List ℕ → Kept
+
+abbrev pub keptBytes : Kept → List ℕ
+keptBytes (post h leads) = postBytes h leads
+keptBytes (unusable bytes) = bytes
+
+-- the bytes that a list of calls finds
+unfoldable pub keptOf : List ℕ → Kept
+keptOf state = cond (goodPost state) (post (headOf state) (leadsOf state)) (unusable state)
+
+-- what a call returns and leaves, by the rules
+pub record Ruled : Type 0 where
+  pub number : ℕ
+  pub kept : Kept
+  pub lent : List ℕ
+
+-- an accepted setup begins anew with fresh leads
+unfoldable pub ruled : Kept → Call → Ruled
+ruled kept (setup leads volts amperes resistance buffer) =
+    let refusal : ℕ = setupRefusal leads volts amperes resistance (length buffer) in
+    let h : Head = headFrom leads volts amperes resistance in
+    cond (eqb refusal 0)
+    (record { number = 0; kept = post h (λ k. fresh); lent = postBytes h (λ k. fresh) })
+    (record { number = refusal; kept = kept; lent = buffer })
+ruled (post h leads) (tick input output) =
+    let refusal : ℕ = inputRefusal (h .leads) input (length output) in
+    cond (eqb refusal 0)
+    (record { number = 0; kept = post h (leadAfter h input leads); lent = shownBytes h input (leadAfter h input leads) })
+    (record { number = refusal; kept = post h leads; lent = output })
+ruled (unusable bytes) (tick input output) = record { number = 6; kept = unusable bytes; lent = output }
+
+abbrev pub answered : Ruled → Answer
+answered done = record { number = done .number; state = keptBytes (done .kept); lent = done .lent }
+
+unfoldable pub trace : Kept → List Call → List Answer
+trace kept [] = []
+trace kept (call ∷ calls) = answered (ruled kept call) ∷ trace (ruled kept call .kept) calls
