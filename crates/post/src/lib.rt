@@ -1,2 +1,44 @@
-// The post: one to four leads. Document 01, 'The post's two calls'.
+// The post: one to four leads, and the two calls of the C host. Document 01, 'The post's two calls'.
+// Rests on the promises of `lead`, `lead_records`, `sharing`, `readings`, `little_endian` and `bytes`.
 mod head;
+mod lengths;
+mod refusals;
+mod ticks;
+mod turns;
+mod written;
+
+use head::Head;
+use lead::Ratings;
+use refusals::setup_refusal;
+use written::write_fresh;
+ghost use mathlib.Core.Path.{_≡_};
+ghost use Rattle.post.specs.Calls.{SetUp, setupOf};
+
+// Writes a fresh state. The resistance is the cable's, as its float's bits. Returns 0, or the number of the first question that gets a
+// no, and then nothing has changed.
+#[no_mangle]
+pub extern "C" fn setup(
+    leads: u32,
+    rated_volts: u32,
+    rated_amperes: u32,
+    resistance: u32,
+    state: &mut [u8],
+) -> u32
+    ensures { λ r. ⌜ _≡_ {A = SetUp} (record { number = r; state = now (state .exit) })
+        (setupOf leads «rated_volts» «rated_amperes» resistance (now (state .entry))) ⌝ }
+{
+    let room = state.len();
+    let refusal = setup_refusal(leads, rated_volts, rated_amperes, resistance, room);
+    if refusal == 0 {
+        let head = Head {
+            leads: leads as u8,
+            ratings: Ratings {
+                volts: rated_volts as u16,
+                amperes: rated_amperes as u8,
+                resistance,
+            },
+        };
+        write_fresh(head, state);
+    }
+    refusal
+}

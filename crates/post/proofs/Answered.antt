@@ -1,0 +1,40 @@
+-- What a call returns and leaves, done or refused; r is the number that the code worked out. Assumes nothing.
+use mathlib.Core.List.{List, _++_}
+use mathlib.Core.Path.{_≡_}
+use Prim.Native.Nat.{ℕ}
+use lib.ListN.{length, take}
+use borrow.Author.Tests.{ne-eqb}
+use Rattle.lead.specs.Hearing.{fresh}
+use Rattle.lead_records.specs.States.{encode}
+use Rattle.post.specs.Parts.{joined}
+use Rattle.post.specs.Heads.{headSize, headFrom, headOf}
+use Rattle.post.specs.Rules.{postBytes, shownBytes}
+use Rattle.post.specs.Refusals.{setupRefusal, tickRefusal}
+use Rattle.post.specs.Calls.{SetUp, setupOf, leadsAfter, Ticked, tickOf}
+
+module _ (leads volts amperes resistance : ℕ) (state : List ℕ) {r : ℕ} (e : r ≡ setupRefusal leads volts amperes resistance (length state)) where
+  pub setup-done :
+      {after : List ℕ}
+      → r ≡ 0
+      → after ≡ postBytes (headFrom leads volts amperes resistance) (λ k. fresh)
+      → _≡_ {A = SetUp} (record { number = r; state = after }) (setupOf leads volts amperes resistance state)
+  unfolding setupOf
+  setup-done z a = rw (← e, z, a)
+
+  pub setup-refused : (r ≡ 0 → ⊥) → _≡_ {A = SetUp} (record { number = r; state = state }) (setupOf leads volts amperes resistance state)
+  unfolding setupOf
+  setup-refused n = rw (← e, ne-eqb _ _ n)
+
+module _ (state input output : List ℕ) {r : ℕ} (e : r ≡ tickRefusal state input (length output)) where
+  pub tick-done :
+      {after shown : List ℕ}
+      → r ≡ 0
+      → after ≡ take headSize state ++ joined (headOf state .leads) (λ k. encode (leadsAfter state input k))
+      → shown ≡ shownBytes (headOf state) input (leadsAfter state input)
+      → _≡_ {A = Ticked} (record { number = r; state = after; output = shown }) (tickOf state input output)
+  unfolding tickOf
+  tick-done z a b = rw (← e, z, a, b)
+
+  pub tick-refused : (r ≡ 0 → ⊥) → _≡_ {A = Ticked} (record { number = r; state = state; output = output }) (tickOf state input output)
+  unfolding tickOf
+  tick-refused n = rw (← e, ne-eqb _ _ n)

@@ -1,0 +1,14 @@
+-- `post::head::Head::read` meets its contract. By the numbers that are read. Assumes nothing.
+use Rattle.post.specs.Heads.{headOf}
+use borrow.Author.Needs.{needs}
+use Rattle.post.proofs.head.Head.read.Statement.{statement}
+use Rattle.post.proofs.head.Head.read.Tie as tie
+
+returns : tie.Need-returns
+unfolding headOf
+returns c = rw (c .u32-at .ensures, c .before .before .u16-at .ensures)
+
+pub read-spec : {M : Type 1} → statement M
+read-spec =
+    tie.close
+    (tie.spec (search needs) (search needs) (search needs) (search needs) returns)

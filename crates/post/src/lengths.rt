@@ -1,0 +1,28 @@
+// How long the state, the input and the output of a post with some leads are.
+use super::head::Head;
+use lead_records::InputRecord;
+use lead_records::OutputRecord;
+use lead_records::StateRecord;
+ghost use mathlib.Core.Path.{_≡_};
+ghost use Rattle.post.specs.Heads.{stateLength, inputLength, outputLength};
+
+// The power limit, which stands before the leads' inputs (document 01: allowance).
+pub const LIMIT_SIZE: usize = 4;
+
+pub(crate) fn state_length(leads: u8) -> usize
+    ensures { λ r. ⌜ r ≡ stateLength leads ⌝ }
+{
+    Head::SIZE + StateRecord::SIZE * (leads as usize)
+}
+
+pub(crate) fn input_length(leads: u8) -> usize
+    ensures { λ r. ⌜ r ≡ inputLength leads ⌝ }
+{
+    LIMIT_SIZE + InputRecord::SIZE * (leads as usize)
+}
+
+pub(crate) fn output_length(leads: u8) -> usize
+    ensures { λ r. ⌜ r ≡ outputLength leads ⌝ }
+{
+    OutputRecord::SIZE * (leads as usize)
+}

@@ -1,0 +1,111 @@
+// What setup and tick ask before they do anything. Each answers with the number of the first no, 0 where there is none.
+use super::head::Head;
+use super::head::head_refusal;
+use super::lengths::LIMIT_SIZE;
+use super::lengths::input_length;
+use super::lengths::output_length;
+use super::lengths::state_length;
+use lead_records::InputRecord;
+use lead_records::StateRecord;
+ghost use mathlib.Core.Path.{_≡_};
+ghost use lib.ListN.{length};
+ghost use Rattle.lead_records.specs.States.{stateSize, goodState};
+ghost use Rattle.lead_records.specs.Inputs.{goodInput};
+ghost use Rattle.post.specs.Parts.{part, every};
+ghost use Rattle.post.specs.Heads.{headSize, stateLength, inputLength};
+ghost use Rattle.post.specs.Rules.{inputPart};
+ghost use Rattle.post.specs.Refusals.{setupRefusal, goodPost, inputRefusal, tickRefusal};
+
+// The room is the state's length.
+pub(crate) fn setup_refusal(
+    leads: u32,
+    volts: u32,
+    amperes: u32,
+    resistance: u32,
+    room: usize,
+) -> u32
+    ensures { λ r. ⌜ r ≡ setupRefusal leads volts amperes resistance room ⌝ }
+{
+    let refusal = head_refusal(leads, volts, amperes, resistance);
+    if refusal != 0 {
+        return refusal;
+    }
+    if room != state_length(leads as u8) {
+        return 5;
+    }
+    0
+}
+
+fn are_good_states(head: Head, state: &[u8]) -> bool
+    requires { ⌜ length (now state) ≡ stateLength (head .leads) ⌝ }
+    ensures { λ r. ⌜ r ≡ every (head .leads) (λ k. goodState (head .ratings) (part headSize stateSize k (now (state .entry)))) ⌝ }
+{
+    let leads = head.leads as usize;
+    let mut i = 0;
+    while i < leads {
+        let at = Head::SIZE + StateRecord::SIZE * i;
+        if !StateRecord::is_good(&state[at..at + StateRecord::SIZE], head.ratings) {
+            return false;
+        }
+        i += 1;
+    }
+    true
+}
+
+fn is_good_post(state: &[u8]) -> bool
+    ensures { λ r. ⌜ r ≡ goodPost (now (state .entry)) ⌝ }
+{
+    if state.len() < Head::SIZE {
+        return false;
+    }
+    let head = Head::read(state);
+    if !head.is_good() {
+        return false;
+    }
+    if state.len() != state_length(head.leads) {
+        return false;
+    }
+    are_good_states(head, state)
+}
+
+fn are_good_inputs(leads: u8, input: &[u8]) -> bool
+    requires { ⌜ length (now input) ≡ inputLength leads ⌝ }
+    ensures { λ r. ⌜ r ≡ every leads (λ k. goodInput (inputPart (now (input .entry)) k)) ⌝ }
+{
+    let leads = leads as usize;
+    let mut i = 0;
+    while i < leads {
+        let at = LIMIT_SIZE + InputRecord::SIZE * i;
+        if !InputRecord::is_good(&input[at..at + InputRecord::SIZE]) {
+            return false;
+        }
+        i += 1;
+    }
+    true
+}
+
+// The room is the output's length.
+fn input_refusal(leads: u8, input: &[u8], room: usize) -> u32
+    ensures { λ r. ⌜ r ≡ inputRefusal leads (now (input .entry)) room ⌝ }
+{
+    if input.len() != input_length(leads) {
+        return 7;
+    }
+    if room != output_length(leads) {
+        return 8;
+    }
+    if !are_good_inputs(leads, input) {
+        return 9;
+    }
+    0
+}
+
+pub(crate) fn tick_refusal(state: &[u8], input: &[u8], room: usize) -> u32
+    ensures { λ r. ⌜ r ≡ tickRefusal (now (state .entry)) (now (input .entry)) room ⌝ }
+{
+    if !is_good_post(state) {
+        return 6;
+    }
+    let head = Head::read(state);
+    input_refusal(head.leads, input, room)
+}

@@ -1,0 +1,35 @@
+// A tick that nothing refuses: the leads decide, share the power limit, and are written.
+use super::head::Head;
+use super::turns::command_all;
+use super::turns::decide_all;
+use super::turns::level_among;
+use super::written::write_outputs;
+use super::written::write_states;
+use little_endian::u32_at;
+ghost use mathlib.Core.Path.{_≡_};
+ghost use mathlib.Core.List.{_++_};
+ghost use lib.ListN.{length, take};
+ghost use Rattle.lead_records.specs.States.{encode};
+ghost use Rattle.post.specs.Parts.{joined};
+ghost use Rattle.post.specs.Heads.{headSize, headOf};
+ghost use Rattle.post.specs.Rules.{shownBytes};
+ghost use Rattle.post.specs.Refusals.{tickRefusal};
+ghost use Rattle.post.specs.Calls.{leadsAfter};
+
+// Where the power limit stands in the input.
+const LIMIT: usize = 0;
+
+pub(crate) fn carry_out(state: &mut [u8], input: &[u8], output: &mut [u8])
+    requires { ⌜ tickRefusal (now state) (now input) (length (now output)) ≡ 0 ⌝ }
+    ensures { λ _. ⌜ now (state .exit) ≡ take headSize (now (state .entry))
+        ++ joined (headOf (now (state .entry)) .leads) (λ k. encode (leadsAfter (now (state .entry)) (now (input .entry)) k)) ⌝ }
+    ensures { λ _. ⌜ now (output .exit) ≡ shownBytes (headOf (now (state .entry))) (now (input .entry)) (leadsAfter (now (state .entry)) (now (input .entry))) ⌝ }
+{
+    let head = Head::read(state);
+    let limit = u32_at(input, LIMIT);
+    let decided = decide_all(head, state, input);
+    let level = level_among(head.ratings, decided, limit);
+    let turns = command_all(head.ratings, level, decided);
+    write_states(head.leads, turns, state);
+    write_outputs(head, turns, output);
+}
