@@ -10,9 +10,11 @@ mod written;
 use head::Head;
 use lead::Ratings;
 use refusals::setup_refusal;
+use refusals::tick_refusal;
+use ticks::carry_out;
 use written::write_fresh;
 ghost use mathlib.Core.Path.{_≡_};
-ghost use Rattle.post.specs.Calls.{SetUp, setupOf};
+ghost use Rattle.post.specs.Calls.{SetUp, setupOf, Ticked, tickOf};
 
 // Writes a fresh state. The resistance is the cable's, as its float's bits. Returns 0, or the number of the first question that gets a
 // no, and then nothing has changed.
@@ -39,6 +41,21 @@ pub extern "C" fn setup(
             },
         };
         write_fresh(head, state);
+    }
+    refusal
+}
+
+// Carries a tick out: every lead's state and output are written. Returns 0, or the number of the first question that gets a no, and then
+// nothing has changed.
+#[no_mangle]
+pub extern "C" fn tick(state: &mut [u8], input: &[u8], output: &mut [u8]) -> u32
+    ensures { λ r. ⌜ _≡_ {A = Ticked} (record { number = r; state = now (state .exit); output = now (output .exit) })
+        (tickOf (now (state .entry)) (now (input .entry)) (now (output .entry))) ⌝ }
+{
+    let room = output.len();
+    let refusal = tick_refusal(state, input, room);
+    if refusal == 0 {
+        carry_out(state, input, output);
     }
     refusal
 }

@@ -6,3 +6,9 @@ pub mod Raises
 pub mod Shares
 pub mod Zeros
 pub mod OverRules
+pub mod Agreement
+pub mod Outputs
+pub mod Numbers
+pub mod Demands
+pub mod Starred
+pub mod Session

@@ -1,3 +1,5 @@
 pub mod Lists
 pub mod Trace
 pub mod Demand3
+pub mod Starred
+pub mod Session

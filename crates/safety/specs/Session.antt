@@ -1,0 +1,102 @@
+-- A list of calls in which everything happens that demand 3 speaks of, so that it does not hold for want of cases. Definitions only.
+use mathlib.Core.List.{List, [], _∷_, _++_}
+use Prim.Native.Nat.{ℕ, _-_}
+use lib.ListN.{length, replicate, take}
+use Rattle.little_endian.specs.Numbers.{u32Bytes}
+use Rattle.lead_records.specs.Inputs.{inputSize}
+use Rattle.lead_records.specs.Outputs.{outputSize}
+use Rattle.post.specs.Heads.{stateLength, outputLength}
+use Rattle.post.specs.Parts.{part}
+use Rattle.post.specs.Calls.{setupOf}
+use Rattle.safety.specs.Lists.{Call, tick, Tick, ticksOf}
+
+-- bytes, filled up with zeros
+abbrev padded : ℕ → List ℕ → List ℕ
+padded size bytes = bytes ++ replicate (size - length bytes) 0
+
+-- H'100: a battery of at most 50 V
+abbrev battery : List ℕ
+battery = (0x00 ∷ 1 ∷ 8 ∷ []) ++ (0 ∷ 0 ∷ 0 ∷ 0 ∷ 50 ∷ 0 ∷ 0 ∷ 0 ∷ [])
+
+-- H'101: 60 s
+abbrev time : List ℕ
+time = (0x01 ∷ 1 ∷ 8 ∷ []) ++ (0 ∷ 6 ∷ 0 ∷ 0 ∷ 0 ∷ 0 ∷ 0 ∷ 0 ∷ [])
+
+-- H'102: 50 V and 10 A asked for
+abbrev status : ℕ → List ℕ
+status flags = (0x02 ∷ 1 ∷ 8 ∷ []) ++ (0 ∷ 50 ∷ 0 ∷ 10 ∷ 0 ∷ flags ∷ 0 ∷ 0 ∷ [])
+
+-- enabled, with the contactor open or closed
+abbrev opened : List ℕ
+opened = status 9
+
+abbrev closed : List ℕ
+closed = status 1
+
+-- a lead's input: contacts, what is present, frames; volts 0 and amperes 0 where present, insulation resistance 8,192 ohms
+abbrev given : ℕ → ℕ → ℕ → List ℕ → List ℕ
+given contacts present count frames =
+    padded inputSize ((contacts ∷ present ∷ count ∷ 0 ∷ []) ++ replicate 8 0 ++ (0 ∷ 0 ∷ 0 ∷ 0x46 ∷ []) ++ frames)
+
+-- what a lead goes through, tick by tick: plug and start; plug and charge permission, the car's frames; lock closed as well
+abbrev unplugged : List ℕ
+unplugged = given 0 3 0 []
+
+abbrev start : List ℕ
+start = given 0x21 0 0 []
+
+abbrev handshake : List ℕ
+handshake = given 3 0 3 (battery ++ time ++ opened)
+
+abbrev lock : List ℕ
+lock = given 7 3 0 []
+
+abbrev test : List ℕ
+test = given 7 7 0 []
+
+abbrev charge : List ℕ
+charge = given 7 3 1 closed
+
+abbrev stop : List ℕ
+stop = given 0x17 3 0 []
+
+abbrev release : List ℕ
+release = given 7 3 1 opened
+
+-- a tick of two leads
+abbrev both : ℕ → List ℕ → List ℕ → Call
+both limit first second = tick (u32Bytes limit ++ first ++ second) (replicate (outputLength 2) 0)
+
+unfoldable pub session : List Call
+session =
+    both 1000 start unplugged
+    ∷ both 1000 handshake start
+    ∷ both 1000 lock handshake
+    ∷ both 1000 test lock
+    ∷ both 1000 lock test
+    ∷ both 1000 charge lock
+    ∷ both 1000 charge charge
+    ∷ both 1000 charge charge
+    -- too short an input: refused
+    ∷ tick [] []
+    -- power for 7 of the 14 A that both want
+    ∷ both 350 charge charge
+    ∷ both 350 stop charge
+    ∷ both 350 lock charge
+    ∷ both 350 release charge
+    ∷ both 350 lock charge
+    ∷ both 350 unplugged charge
+    ∷ both 350 start charge
+    ∷ []
+
+-- phase, reason and command of both leads after a tick
+abbrev shown : Tick → List ℕ
+shown t = take 3 (part 0 outputSize 0 (t .output)) ++ take 3 (part 0 outputSize 1 (t .output))
+
+abbrev pub all : List Tick → List (List ℕ)
+all [] = []
+all (t ∷ ticks) = shown t ∷ all ticks
+
+-- the session on a post with two leads, 500 V and 10 A
+abbrev pub played : List (List ℕ)
+played = all (ticksOf (setupOf 2 500 10 0 (replicate (stateLength 2) 0) .state) session)
