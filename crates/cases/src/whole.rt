@@ -1,0 +1,57 @@
+// Document 01's whole case, through setup and tick: what its bench program prints for it.
+use super::hex;
+use libc::STDOUT_FILENO;
+use post::setup;
+use post::tick;
+
+// The numbers of the setup: one lead, 500 V, 125 A, no cable resistance. Then the sizes of that post's state, input and output.
+const LEADS: u32 = 1;
+
+const RATED_VOLTS: u32 = 500;
+
+const RATED_AMPERES: u32 = 125;
+
+const RESISTANCE: u32 = 0;
+
+const STATE: usize = 40;
+
+const INPUT: usize = 108;
+
+const OUTPUT: usize = 24;
+
+// Where the contacts stand in the input, and plug closed with start pressed.
+const CONTACTS: usize = 4;
+
+const PLUG_AND_START: u8 = 33;
+
+// A call's number as a character.
+fn digit(number: u32) -> u8 {
+    if number < 10 {
+        b'0' + (number as u8)
+    } else {
+        b'?'
+    }
+}
+
+fn write_bytes(bytes: &[u8; OUTPUT]) {
+    for i in 0..OUTPUT {
+        let byte = bytes[i];
+        io::write_all(
+            STDOUT_FILENO,
+            &[hex::high_digit(byte), hex::low_digit(byte)],
+        );
+    }
+}
+
+pub(crate) fn whole_case() {
+    let mut state = [0u8; STATE];
+    let mut input = [0u8; INPUT];
+    let mut output = [0u8; OUTPUT];
+    input[CONTACTS] = PLUG_AND_START;
+    let number = setup(LEADS, RATED_VOLTS, RATED_AMPERES, RESISTANCE, &mut state);
+    io::write_all(STDOUT_FILENO, &[digit(number), b'\n']);
+    let number = tick(&mut state, &input, &mut output);
+    io::write_all(STDOUT_FILENO, &[digit(number), b'\t']);
+    write_bytes(&output);
+    io::write_all(STDOUT_FILENO, &[b'\n']);
+}
