@@ -12,18 +12,19 @@ use Rattle.post.specs.Rules.{postBytes, shownBytes}
 use Rattle.post.specs.Refusals.{setupRefusal, tickRefusal}
 use Rattle.post.specs.Calls.{SetUp, setupOf, leadsAfter, Ticked, tickOf}
 
-module _ (leads volts amperes resistance : ℕ) (state : List ℕ) {r : ℕ} (e : r ≡ setupRefusal leads volts amperes resistance (length state)) where
-  pub setup-done :
-      {after : List ℕ}
-      → r ≡ 0
-      → after ≡ postBytes (headFrom leads volts amperes resistance) (λ k. fresh)
-      → _≡_ {A = SetUp} (record { number = r; state = after }) (setupOf leads volts amperes resistance state)
-  unfolding setupOf
-  setup-done z a = rw (← e, z, a)
+module _ (leads volts amperes resistance : ℕ) (state : List ℕ) {r : ℕ} (e : r ≡ setupRefusal leads volts amperes resistance (length state))
+  where
+    pub setup-done :
+        {after : List ℕ}
+        → r ≡ 0
+        → after ≡ postBytes (headFrom leads volts amperes resistance) (λ k. fresh)
+        → _≡_ {A = SetUp} (record { number = r; state = after }) (setupOf leads volts amperes resistance state)
+    unfolding setupOf
+    setup-done z a = rw (← e, z, a)
 
-  pub setup-refused : (r ≡ 0 → ⊥) → _≡_ {A = SetUp} (record { number = r; state = state }) (setupOf leads volts amperes resistance state)
-  unfolding setupOf
-  setup-refused n = rw (← e, ne-eqb _ _ n)
+    pub setup-refused : (r ≡ 0 → ⊥) → _≡_ {A = SetUp} (record { number = r; state = state }) (setupOf leads volts amperes resistance state)
+    unfolding setupOf
+    setup-refused n = rw (← e, ne-eqb _ _ n)
 
 module _ (state input output : List ℕ) {r : ℕ} (e : r ≡ tickRefusal state input (length output)) where
   pub tick-done :

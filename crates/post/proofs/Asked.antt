@@ -56,7 +56,8 @@ pub record HeadTaken (leads volts amperes resistance : ℕ) : Type 0 where
   pub amperes-most : amperes ≤ 200
   pub allowed : allowedResistance resistance ≡ true
 
-pub head-taken : (leads volts amperes resistance : ℕ) → headRefusal leads volts amperes resistance ≡ 0 → HeadTaken leads volts amperes resistance
+pub head-taken : (leads volts amperes resistance : ℕ) → headRefusal leads volts amperes resistance ≡ 0 → HeadTaken leads volts amperes
+    resistance
 unfolding headRefusal
 head-taken leads volts amperes resistance e =
     let d = unless (allowedResistance resistance) 4 ∷ [] in
@@ -113,7 +114,8 @@ module _ (state : List ℕ) where
       let other : eqb (length state) (stateLength n) ≡ false = ne-eqb (length state) (stateLength n) (λ e. omega arith) in
       rw other (go (goodHead (headOf state)))
     where
-      go : (b : Bool) → false ≡ (b && false && every (headOf state .leads) (λ k. goodState (headOf state .ratings) (part headSize stateSize k state)))
+      go : (b : Bool) → false ≡ (b && false && every (headOf state .leads)
+          (λ k. goodState (headOf state .ratings) (part headSize stateSize k state)))
       go true = refl
       go false = refl
 
@@ -128,7 +130,8 @@ module _ (state : List ℕ) where
       other-length n = rw (← e, yes-head, ne-eqb _ _ n)
 
       pub good-if-leads :
-          length state ≡ stateLength (h .leads) → every (h .leads) (λ k. goodState (h .ratings) (part headSize stateSize k state)) ≡ goodPost state
+          length state ≡ stateLength (h .leads) → every (h .leads) (λ k. goodState (h .ratings) (part headSize stateSize k state)) ≡
+          goodPost state
       unfolding goodPost
       good-if-leads long = rw (← e, yes-head, eq-eqb _ _ long)
 
@@ -182,5 +185,6 @@ taken-whole state input room e =
       shown = eqb→eq room (outputLength n) (is-met (eqb room (outputLength n)) 7 (eight .0));
     }
 
-pub tick-taken : {h : Head} {state input : List ℕ} {room : ℕ} → h ≡ headOf state → tickRefusal state input room ≡ 0 → TickTaken h state input room
+pub tick-taken : {h : Head} {state input : List ℕ} {room : ℕ} → h ≡ headOf state → tickRefusal state input room ≡ 0 → TickTaken h state
+    input room
 tick-taken {state = state} {input = input} {room = room} own e = rw own (taken-whole state input room e)

@@ -63,7 +63,8 @@ module _ (h : Head) (input : List ℕ) (leads : ℕ → Lead) (few : h .leads �
   outputs-are : joined (h .leads) (λ k. turnShown (h .ratings) (getD next k emptyTurn)) ≡ shownBytes h input (leadAfter h input leads)
   unfolding shownBytes
   outputs-are =
-      joined-same (h .leads) (λ k. turnShown (h .ratings) (getD next k emptyTurn)) (λ k. shownAt h input (leadAfter h input leads k) k) next-shows
+      joined-same (h .leads) (λ k. turnShown (h .ratings) (getD next k emptyTurn)) (λ k. shownAt h input (leadAfter h input leads k) k)
+      next-shows
 
 -- the same for the state's own head and leads
 module _ (state input : List ℕ) {h : Head} (own : h ≡ headOf state) (few : h .leads ≤ places) (turns next : List Turn) (level : ℕ)

@@ -55,7 +55,8 @@ module _ (test : List ℕ → Bool) (head size : ℕ) (bytes : List ℕ) where
 
   module _ (i : ℕ) {r : Bool} (e : r ≡ tested i) where
     pub each-not : (n : ℕ) → i < n → not r ≡ true → false ≡ each n
-    each-not n h no-said = sym (every-not n i (λ k. test (part head size k bytes)) h (said-no (e ∙ ap test (cut head size i bytes)) no-said))
+    each-not n h no-said = sym (every-not n i (λ k. test (part head size k bytes)) h
+        (said-no (e ∙ ap test (cut head size i bytes)) no-said))
 
     pub each-more : each i ≡ true → not r ≡ false → each (i + 1) ≡ true
     each-more before said = every-more i (λ k. test (part head size k bytes)) before (said-yes (e ∙ ap test (cut head size i bytes)) said)

@@ -55,7 +55,11 @@ module _ (h : Head) (leads : ℕ → Lead) where
 
   pub post-sized : length bytes ≡ stateLength (h .leads)
   unfolding postBytes
-  post-sized = length-append (headBytes h) _ ∙ rw (head-length h, joined-length stateSize (λ k. encode (leads k)) (λ k. encode-length (leads k)) (h .leads))
+  post-sized = length-append (headBytes h) _ ∙ rw (
+    head-length h,
+    joined-length stateSize (λ k. encode (leads k))
+        (λ k. encode-length (leads k)) (h .leads),
+  )
 
   part-back : (k : ℕ) → k < h .leads → part headSize stateSize k bytes ≡ encode (leads k)
   unfolding postBytes
@@ -113,7 +117,17 @@ module _ (state : List ℕ) (good : T (goodPost state)) where
     head-again : headBytes read ≡ take headSize state
     unfolding headBytes headOf
     head-again =
-        rw (low-half-back (u16At state 4) (u16At state 6) half-small, high-half-back (u16At state 4) (u16At state 6) half-small, low 2, high 2, low 4, high 4, low 6, high 6)
+        rw (
+          low-half-back (u16At state 4) (u16At state 6) half-small,
+          high-half-back (u16At state 4) (u16At state 6) half-small,
+          low 2,
+          high
+              2,
+          low 4,
+          high 4,
+          low 6,
+          high 6,
+        )
         (ap (take headSize) (spelled-is 0 state headSize 0 long))
 
     fits : (k : ℕ) → k < read .leads → headSize + stateSize * k + stateSize ≤ length state
@@ -124,7 +138,9 @@ module _ (state : List ℕ) (good : T (goodPost state)) where
         length-take-le stateSize (drop (headSize + stateSize * k) state) (rw length-drop (omega (arith, fits k below)))
 
     record-small : (k n : ℕ) → getD (record-at k) n 0 < 256
-    record-small k = small-take stateSize (drop (headSize + stateSize * k) state) (λ n. rw (getD-drop (headSize + stateSize * k) state n 0) (small (headSize + stateSize * k + n)))
+    record-small k =
+        small-take stateSize (drop (headSize + stateSize * k) state)
+        (λ n. rw (getD-drop (headSize + stateSize * k) state n 0) (small (headSize + stateSize * k + n)))
 
     record-again : (k : ℕ) → k < read .leads → encode (leadsOf state k) ≡ record-at k
     unfolding leadsOf
@@ -168,7 +184,8 @@ module _ (h : Head) (input : List ℕ) (leads : ℕ → Lead) where
         head = s .head;
         each =
             λ k below.
-            good-stays (h .ratings) (inputAt h input k) (leads k) (good-taken h (s .head) .volts-least) (levelAfter h input leads) (s .each k below);
+            good-stays (h .ratings) (inputAt h input k) (leads k) (good-taken h (s .head) .volts-least) (levelAfter h input leads)
+            (s .each k below);
       }
 
   -- what a tick of a sound post's bytes returns and leaves: nothing but its input and its output can be refused
@@ -186,20 +203,24 @@ module _ (h : Head) (input : List ℕ) (leads : ℕ → Lead) where
     refusal-is : (room : ℕ) → tickRefusal mine input room ≡ inputRefusal (h .leads) input room
     unfolding tickRefusal
     refusal-is room =
-        rw (is-true (goodPost mine) (sound-good h leads s), post-head-back h leads) (sym (last-refused (inputRefusal (h .leads) input room)))
+        rw (is-true (goodPost mine) (sound-good h leads s), post-head-back h leads)
+        (sym (last-refused (inputRefusal (h .leads) input room)))
 
     leads-are : (k : ℕ) → k < h .leads → leadsAfter mine input k ≡ leadAfter h input leads k
     leads-are k below =
         ap (λ (g : Head). leadAfter g input (leadsOf mine) k) (post-head-back h leads)
         ∙ after-same h input (leadsOf mine) leads (lead-back h leads) k below
 
-    state-is : take headSize mine ++ joined (headOf mine .leads) (λ k. encode (leadsAfter mine input k)) ≡ postBytes h (leadAfter h input leads)
+    state-is : take headSize mine ++ joined (headOf mine .leads) (λ k. encode (leadsAfter mine input k)) ≡ postBytes h
+        (leadAfter h input leads)
     unfolding postBytes
     state-is =
         rw (take-at (headBytes h) (joined (h .leads) (λ k. encode (leads k))) headSize (head-length h))
-        (ap (λ (n : ℕ). headBytes h ++ joined n (λ k. encode (leadsAfter mine input k))) (ap (λ (g : Head). g .leads) (post-head-back h leads))
+        (ap (λ (n : ℕ). headBytes h ++ joined n (λ k. encode (leadsAfter mine input k)))
+        (ap (λ (g : Head). g .leads) (post-head-back h leads))
         ∙ ap (λ (r : List ℕ). headBytes h ++ r)
-        (joined-same (h .leads) (λ k. encode (leadsAfter mine input k)) (λ k. encode (leadAfter h input leads k)) (λ k below. ap encode (leads-are k below))))
+        (joined-same (h .leads) (λ k. encode (leadsAfter mine input k)) (λ k. encode (leadAfter h input leads k))
+        (λ k below. ap encode (leads-are k below))))
 
     output-is : shownBytes (headOf mine) input (leadsAfter mine input) ≡ shownBytes h input (leadAfter h input leads)
     unfolding shownBytes
@@ -214,7 +235,8 @@ module _ (h : Head) (input : List ℕ) (leads : ℕ → Lead) where
 
 -- byte 2 of what lead k shows is its command
 pub shown-command :
-    (h : Head) (input : List ℕ) (leads : ℕ → Lead) (k : ℕ) → k < h .leads → byteAt (part 0 outputSize k (shownBytes h input leads)) 2 ≡ leads k .command
+    (h : Head) (input : List ℕ) (leads : ℕ → Lead) (k : ℕ) → k < h .leads → byteAt (part 0 outputSize k (shownBytes h input leads)) 2 ≡
+    leads k .command
 unfolding shownBytes
 shown-command h input leads k below =
     ap (λ (b : List ℕ). byteAt b 2)
@@ -222,6 +244,7 @@ shown-command h input leads k below =
     ∙ output-command (h .ratings) _ _ (leads k)
 
 -- bytes that are no good state
-pub tick-unusable : (state input output : List ℕ) → goodPost state ≡ false → tickOf state input output ≡ record { number = 6; state = state; output = output }
+pub tick-unusable : (state input output : List ℕ) → goodPost state ≡ false → tickOf state input output ≡ record
+    { number = 6; state = state; output = output }
 unfolding tickOf tickRefusal
 tick-unusable state input output bad = rw bad

@@ -30,7 +30,8 @@ unfolding keptOf
 demand-2 state small calls = go (goodPost state) refl
   where
     go : (b : Bool) → goodPost state ≡ b → answers state calls ≡ trace (keptOf state) calls
-    go true e = rw e (ap (λ (s : List ℕ). answers s calls) (sym (read-again state (holds e) small)) ∙ all-follow (post _ _) (read-sound state (holds e)) calls)
+    go true e = rw e (ap (λ (s : List ℕ). answers s calls) (sym (read-again state (holds e) small)) ∙ all-follow (post _ _)
+        (read-sound state (holds e)) calls)
     go false e = rw e (all-follow (unusable state) e calls)
 
 -- an accepted setup
@@ -66,5 +67,6 @@ module _ (leads volts amperes resistance : ℕ) (buffer : List ℕ) (accepted : 
       (shown h calls sound))
 
   -- no tick after an accepted setup returns 6, nor does a setup
-  pub never-6 : (calls : List Call) (t : ℕ) → getD (answers (setupOf leads volts amperes resistance buffer .state) calls) t noAnswer .number ≡ 6 → ⊥
+  pub never-6 : (calls : List Call) (t : ℕ) → getD (answers (setupOf leads volts amperes resistance buffer .state) calls) t noAnswer .number
+      ≡ 6 → ⊥
   never-6 calls t = rw (state-is, all-follow (post h (λ k. fresh)) sound calls) (trace-never-6 (post h (λ k. fresh)) tt calls t)

@@ -27,7 +27,8 @@ module _ (h : Head) where
   since-fresh ticks (suc t) = ap (leadAfter h (given h ticks t)) (since-fresh ticks t)
 
   -- a tick more at the front
-  since-later : (leads : ℕ → Lead) (first : Tick) (ticks : List Tick) (t : ℕ) → since leads (first ∷ ticks) (suc t) ≡ since (leadAfter h (first .input) leads) ticks t
+  since-later : (leads : ℕ → Lead) (first : Tick) (ticks : List Tick) (t : ℕ) → since leads (first ∷ ticks) (suc t) ≡ since
+      (leadAfter h (first .input) leads) ticks t
   since-later leads first ticks zero = refl
   since-later leads first ticks (suc t) = ap (leadAfter h (given h ticks t)) (since-later leads first ticks t)
 
@@ -58,7 +59,8 @@ module _ (h : Head) where
       (shown-since calls (leadAfter h input leads) (sound-stays h input leads s)))
     where
       next : Ticked → List Tick
-      next done = cond (eqb (done .number) 0) (record { input = input; output = done .output } ∷ ticksOf (done .state) calls) (ticksOf (done .state) calls)
+      next done = cond (eqb (done .number) 0) (record { input = input; output = done .output } ∷ ticksOf (done .state) calls)
+          (ticksOf (done .state) calls)
 
       go :
           (b : Bool)

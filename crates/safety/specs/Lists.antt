@@ -43,4 +43,5 @@ ticksOf state (setup leads volts amperes resistance buffer ∷ calls) =
     cond (eqb (setupOf leads volts amperes resistance buffer .number) 0) [] (ticksOf state calls)
 ticksOf state (tick input output ∷ calls) =
     let done : Ticked = tickOf state input output in
-    cond (eqb (done .number) 0) (record { input = input; output = done .output } ∷ ticksOf (done .state) calls) (ticksOf (done .state) calls)
+    cond (eqb (done .number) 0) (record { input = input; output = done .output } ∷ ticksOf (done .state) calls)
+    (ticksOf (done .state) calls)

@@ -89,7 +89,8 @@ shared limit =
     let first : Lead = leadAt charging 25 25 in
     let second : Lead = leadAt charging 150 150 in
     let wants : List ℕ = wantedWatts ratings first ∷ wantedWatts ratings second ∷ [] in
-    wants ++ (levelFor wants limit ∷ commanded ratings (levelFor wants limit) first .command ∷ commanded ratings (levelFor wants limit) second .command ∷ [])
+    wants ++ (levelFor wants limit ∷ commanded ratings (levelFor wants limit) first .command ∷ commanded ratings (levelFor wants limit)
+    second .command ∷ [])
 
 -- raw input of one lead: 100,000 W; plug, charge permission and lock closed, stop button pressed; 390 V and 0 A; no frames
 abbrev stopInput : List ℕ
@@ -127,7 +128,11 @@ cases =
     -- "Allowance 0: 0."
     ∷ record { number = 12; given = levelFor (100 ∷ []) 0 ∷ []; stated = 0 ∷ [] }
     -- "Command 125, ordinary stop, allowance ample: 115 in that tick, 5 in the 12th, 0 in the 13th."
-    ∷ record { number = 13; given = stopping 1 0 .command ∷ stopping 12 0 .command ∷ stopping 13 0 .command ∷ []; stated = 115 ∷ 5 ∷ 0 ∷ [] }
+    ∷ record {
+      number = 13;
+      given = stopping 1 0 .command ∷ stopping 12 0 .command ∷ stopping 13 0 .command ∷ [];
+      stated = 115 ∷ 5 ∷ 0 ∷ [];
+    }
     ∷ []
 
 abbrev same : List ℕ → List ℕ → Bool

@@ -1,7 +1,7 @@
 -- `post::head::head_refusal` meets its contract. Each answer decides a question. Assumes nothing.
+use borrow.Author.Needs.{needs}
 use Rattle.post.specs.Refusals.{headRefusal}
 use Rattle.post.proofs.Asked.{said-no, said-yes}
-use borrow.Author.Needs.{needs}
 use Rattle.post.proofs.head.head_refusal.Statement.{statement}
 use Rattle.post.proofs.head.head_refusal.Tie as tie
 
@@ -20,7 +20,12 @@ unfolding headRefusal
 returns-3 c =
     let k = c .before .before in
     let j = k .before .before in
-    rw (said-yes (j .before .is-between .ensures) (j .if1 .left), said-yes (k .before .is-between2 .ensures) (k .if2 .left), said-no (c .before .is-between3 .ensures) (c .if3 .taken))
+    rw (
+      said-yes (j .before .is-between .ensures) (j .if1 .left),
+      said-yes (k .before .is-between2 .ensures) (k .if2 .left),
+      said-no
+          (c .before .is-between3 .ensures) (c .if3 .taken),
+    )
 
 returns-4 : tie.Need-returns-4
 unfolding headRefusal
@@ -28,7 +33,13 @@ returns-4 c =
     let l = c .before .before in
     let k = l .before .before in
     let j = k .before .before in
-    rw (said-yes (j .before .is-between .ensures) (j .if1 .left), said-yes (k .before .is-between2 .ensures) (k .if2 .left), said-yes (l .before .is-between3 .ensures) (l .if3 .left), said-no (c .before .is-allowed-resistance .ensures) (c .if4 .taken))
+    rw (
+      said-yes (j .before .is-between .ensures) (j .if1 .left),
+      said-yes (k .before .is-between2 .ensures) (k .if2 .left),
+      said-yes
+          (l .before .is-between3 .ensures) (l .if3 .left),
+      said-no (c .before .is-allowed-resistance .ensures) (c .if4 .taken),
+    )
 
 returns-5 : tie.Need-returns-5
 unfolding headRefusal
@@ -36,7 +47,13 @@ returns-5 c =
     let l = c .before .before in
     let k = l .before .before in
     let j = k .before .before in
-    rw (said-yes (j .before .is-between .ensures) (j .if1 .left), said-yes (k .before .is-between2 .ensures) (k .if2 .left), said-yes (l .before .is-between3 .ensures) (l .if3 .left), said-yes (c .before .is-allowed-resistance .ensures) (c .if4 .left))
+    rw (
+      said-yes (j .before .is-between .ensures) (j .if1 .left),
+      said-yes (k .before .is-between2 .ensures) (k .if2 .left),
+      said-yes
+          (l .before .is-between3 .ensures) (l .if3 .left),
+      said-yes (c .before .is-allowed-resistance .ensures) (c .if4 .left),
+    )
 
 pub head-refusal-spec : {M : Type 1} → statement M
 head-refusal-spec =

@@ -26,13 +26,17 @@ returns : tie.Need-returns Inv-loop μ-loop
 returns c =
     let k = c .before .before .before .before in
     let a = k .before .before .before .args in
-    each-not (goodState (a .head .ratings)) headSize stateSize (now (a .state)) (k .loop .i) (c .before .is-good .ensures) (a .head .leads) (omega arith) (c .if1 .taken)
+    each-not (goodState (a .head .ratings)) headSize stateSize (now (a .state)) (k .loop .i) (c .before .is-good .ensures) (a .head .leads)
+    (omega arith) (c .if1 .taken)
 
 loop-again : tie.Need-loop-again Inv-loop μ-loop
 loop-again c =
     let k = c .before .before .before .before in
-    let a = k .before .before .before .args in
-    (omega arith, each-more (goodState (a .head .ratings)) headSize stateSize (now (a .state)) (k .loop .i) (c .before .is-good .ensures) (k .loop .inv .1) (c .if1 .left))
+    let a = k .before .before .before .args in (
+      omega arith,
+      each-more (goodState (a .head .ratings)) headSize stateSize (now (a .state)) (k .loop .i) (c .before .is-good .ensures)
+          (k .loop .inv .1) (c .if1 .left),
+    )
 
 returns-2 : tie.Need-returns-2 Inv-loop μ-loop
 returns-2 c =

@@ -1,9 +1,9 @@
 -- `post::refusals::input_refusal` meets its contract. Each answer decides a question. Assumes nothing.
+use borrow.Author.Needs.{needs}
 use native.Mathlib.Omega.{arith}
 use borrow.Author.Tests.{eq-eqb, ne-eqb}
 use Rattle.post.specs.Refusals.{inputRefusal}
 use Rattle.post.proofs.Asked.{said-no, said-yes}
-use borrow.Author.Needs.{needs}
 use Rattle.post.proofs.refusals.input_refusal.Statement.{statement}
 use Rattle.post.proofs.refusals.input_refusal.Tie as tie
 
@@ -25,14 +25,26 @@ unfolding inputRefusal
 returns-3 c =
     let j = c .before .before in
     let k = j .before .before in
-    rw (← k .before .input-length .ensures, eq-eqb _ _ (k .if1 .left), ← j .before .output-length .ensures, eq-eqb _ _ (j .if2 .left), said-no (c .before .are-good-inputs .ensures) (c .if3 .taken))
+    rw (
+      ← k .before .input-length .ensures,
+      eq-eqb _ _ (k .if1 .left),
+      ← j .before .output-length .ensures,
+      eq-eqb _ _ (j .if2 .left),
+      said-no (c .before .are-good-inputs .ensures) (c .if3 .taken),
+    )
 
 returns-4 : tie.Need-returns-4
 unfolding inputRefusal
 returns-4 c =
     let j = c .before .before in
     let k = j .before .before in
-    rw (← k .before .input-length .ensures, eq-eqb _ _ (k .if1 .left), ← j .before .output-length .ensures, eq-eqb _ _ (j .if2 .left), said-yes (c .before .are-good-inputs .ensures) (c .if3 .left))
+    rw (
+      ← k .before .input-length .ensures,
+      eq-eqb _ _ (k .if1 .left),
+      ← j .before .output-length .ensures,
+      eq-eqb _ _ (j .if2 .left),
+      said-yes (c .before .are-good-inputs .ensures) (c .if3 .left),
+    )
 
 pub input-refusal-spec : {M : Type 1} → statement M
 input-refusal-spec =

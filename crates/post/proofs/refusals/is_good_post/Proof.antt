@@ -1,9 +1,9 @@
 -- `post::refusals::is_good_post` meets its contract. Each answer decides a part of the rule. Assumes nothing.
+use borrow.Author.Needs.{needs}
 use mathlib.Core.Path.{sym, _∙_}
 use native.Mathlib.Omega.{arith}
 use denote.Ref.{now}
 use Rattle.post.proofs.Asked.{said-no, said-yes, too-short, other-head, other-length, good-if-leads}
-use borrow.Author.Needs.{needs}
 use Rattle.post.proofs.refusals.is_good_post.Statement.{statement}
 use Rattle.post.proofs.refusals.is_good_post.Tie as tie
 
@@ -19,7 +19,8 @@ returns-3 : tie.Need-returns-3
 returns-3 c =
     let j = c .before .before in
     let k = j .before .before in
-    other-length (now (k .before .before .before .args .state)) (k .read .ensures) (said-yes (j .before .is-good .ensures) (j .if2 .left)) (λ e. c .if3 .taken (e ∙ sym (c .before .state-length .ensures)))
+    other-length (now (k .before .before .before .args .state)) (k .read .ensures) (said-yes (j .before .is-good .ensures) (j .if2 .left))
+    (λ e. c .if3 .taken (e ∙ sym (c .before .state-length .ensures)))
 
 are-good-states-requires : tie.Need-are-good-states-requires
 are-good-states-requires c κs = omega (arith, c .before .state-length .ensures)
@@ -29,7 +30,8 @@ returns-4 c =
     let d = c .before in
     let j = d .before .before in
     let k = j .before .before in
-    c .are-good-states .ensures ∙ good-if-leads (now (k .before .before .before .args .state)) (k .read .ensures) (said-yes (j .before .is-good .ensures) (j .if2 .left)) (d .if3 .left ∙ d .before .state-length .ensures)
+    c .are-good-states .ensures ∙ good-if-leads (now (k .before .before .before .args .state)) (k .read .ensures)
+    (said-yes (j .before .is-good .ensures) (j .if2 .left)) (d .if3 .left ∙ d .before .state-length .ensures)
 
 pub is-good-post-spec : {M : Type 1} → statement M
 is-good-post-spec =

@@ -1,14 +1,13 @@
 -- `post::refusals::setup_refusal` meets its contract. By what is refused first. Assumes nothing.
+use borrow.Author.Needs.{needs}
 use mathlib.Core.List.{[], _∷_}
-use lib.Dec.{eqb}
-use Rattle.post.specs.Heads.{stateLength}
-use Rattle.post.specs.Refusals.{unless}
 use mathlib.Core.Path.{sym, _∙_}
 use native.Mathlib.Omega.{arith}
+use lib.Dec.{eqb}
 use borrow.Author.Tests.{eq-eqb, ne-eqb}
-use Rattle.post.specs.Refusals.{setupRefusal}
+use Rattle.post.specs.Heads.{stateLength}
+use Rattle.post.specs.Refusals.{unless, setupRefusal}
 use Rattle.post.proofs.Asked.{first-refused, head-taken}
-use borrow.Author.Needs.{needs}
 use Rattle.post.proofs.refusals.setup_refusal.Statement.{statement}
 use Rattle.post.proofs.refusals.setup_refusal.Tie as tie
 
@@ -16,12 +15,17 @@ returns : tie.Need-returns
 unfolding setupRefusal
 returns c =
     let a = c .before .before .args in
-    rw (← c .before .head-refusal .ensures) (first-refused (c .before .head-refusal .result) (unless (eqb (a .room) (stateLength (a .leads))) 5 ∷ []) (c .if1 .taken))
+    rw (← c .before .head-refusal .ensures) (first-refused (c .before .head-refusal .result)
+    (unless (eqb (a .room) (stateLength (a .leads))) 5 ∷ []) (c .if1 .taken))
 
 cast-state-length : tie.Need-cast-state-length
 cast-state-length c =
     let a = c .before .before .args in
-    omega (arith, head-taken (a .leads) (a .volts) (a .amperes) (a .resistance) (sym (c .before .head-refusal .ensures) ∙ c .if1 .left) .few-leads)
+    omega (
+      arith,
+      head-taken (a .leads) (a .volts) (a .amperes) (a .resistance)
+          (sym (c .before .head-refusal .ensures) ∙ c .if1 .left) .few-leads,
+    )
 
 returns-2 : tie.Need-returns-2
 unfolding setupRefusal

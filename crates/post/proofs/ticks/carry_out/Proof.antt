@@ -1,14 +1,15 @@
 -- `post::ticks::carry_out` meets its contract. By what nothing refused says, and the table of turns as the post after the tick. Assumes nothing.
+use borrow.Author.Needs.{needs}
 use mathlib.Core.Path.{refl, ap, _∙_}
+use Prim.Native.Nat.{ℕ}
 use native.Mathlib.Omega.{arith}
 use lib.ListN.{getD}
+use denote.Ref.{now}
 use Rattle.sharing.specs.Level.{places, levelOf}
 use Rattle.lead.specs.Power.{wantedWatts}
 use Rattle.post.specs.Turns.{emptyTurn}
-use denote.Ref.{now}
 use Rattle.post.proofs.Asked.{tick-taken}
 use Rattle.post.proofs.Divided.{state-after, output-after}
-use borrow.Author.Needs.{needs}
 use Rattle.post.proofs.ticks.carry_out.Statement.{statement}
 use Rattle.post.proofs.ticks.carry_out.Tie as tie
 
@@ -25,7 +26,6 @@ u32-at-requires c κs =
 decide-all-requires : tie.Need-decide-all-requires
 decide-all-requires c κs =
     let k = c .before .before .before .before .before .before .before in
-    let a = k .args in
     let taken = tick-taken (c .before .before .read .ensures) (k .pre) in
     ((taken .head .few-leads, taken .head .allowed), (taken .whole, taken .given))
 
@@ -33,7 +33,6 @@ write-states-requires : tie.Need-write-states-requires
 write-states-requires c κs =
     let d = c .before .before .before .before .before .before in
     let k = d .before .before .before .before .before in
-    let a = k .args in
     let taken = tick-taken (d .read .ensures) (k .pre) in
     (taken .head .few-leads, taken .whole)
 
@@ -41,7 +40,6 @@ write-outputs-requires : tie.Need-write-outputs-requires
 write-outputs-requires c κs =
     let d = c .before .before .before .before .before .before .before .before .before .before in
     let k = d .before .before .before .before .before in
-    let a = k .args in
     let taken = tick-taken (d .read .ensures) (k .pre) in
     (taken .head .few-leads, taken .shown)
 
@@ -51,13 +49,18 @@ returns c =
     let j = written .before .before in
     let d = j .before .before .before .before .before in
     let k = d .before .before .before .before .before in
-    let a = k .args in
-    let taken = tick-taken (d .read .ensures) (k .pre) in
-    let levelled = j .before .level-among .ensures ∙ ap (levelOf places (λ n. wantedWatts (d .read .result .ratings) (getD (j .before .before .decide-all .result) n emptyTurn .lead))) (j .before .before .before .before .u32-at .ensures) in (
-      written .write-states .ensures
-          ∙ state-after (now (a .state)) (now (a .input)) (d .read .ensures) (taken .head .few-leads) (j .before .before .decide-all .result) (j .command-all .result) (j .before .level-among .result) (j .before .before .decide-all .ensures) levelled (j .command-all .ensures),
-      c .before .before .write-outputs .ensures
-          ∙ output-after (now (a .state)) (now (a .input)) (d .read .ensures) (taken .head .few-leads) (j .before .before .decide-all .result) (j .command-all .result) (j .before .level-among .result) (j .before .before .decide-all .ensures) levelled (j .command-all .ensures),
+    let state = now (k .args .state) in
+    let input = now (k .args .input) in
+    let few = tick-taken (d .read .ensures) (k .pre) .head .few-leads in
+    let turns = j .before .before .decide-all .result in
+    let next = j .command-all .result in
+    let wants : ℕ → ℕ = λ n. wantedWatts (d .read .result .ratings) (getD turns n emptyTurn .lead) in
+    let level = j .before .level-among .result in
+    let decided = j .before .before .decide-all .ensures in
+    let levelled = j .before .level-among .ensures ∙ ap (levelOf places wants) (j .before .before .before .before .u32-at .ensures) in
+    let powered = j .command-all .ensures in (
+      written .write-states .ensures ∙ state-after state input (d .read .ensures) few turns next level decided levelled powered,
+      c .before .before .write-outputs .ensures ∙ output-after state input (d .read .ensures) few turns next level decided levelled powered,
     )
 
 pub carry-out-spec : {M : Type 1} → statement M

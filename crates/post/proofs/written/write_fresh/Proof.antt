@@ -1,8 +1,8 @@
 -- `post::written::write_fresh` meets its contract. By the head that is copied and the leads behind it. Assumes nothing.
+use borrow.Author.Needs.{needs}
 use mathlib.Core.Path.{_∙_}
 use denote.Ref.{now}
 use Rattle.post.proofs.FreshPosts.{fresh-post}
-use borrow.Author.Needs.{needs}
 use Rattle.post.proofs.written.write_fresh.Statement.{statement}
 use Rattle.post.proofs.written.write_fresh.Tie as tie
 
@@ -12,7 +12,8 @@ returns c =
     let k = d .before .before .before .before .before in
     let j = k .before .before .before in
     let a = j .before .before .args in
-    d .write-states .ensures ∙ fresh-post (a .head) (j .bytes .result) (now (a .state)) (k .copy .last .1 .0) (j .bytes .ensures) (k .copy .ensures .1) (d .before .before .empty .ensures)
+    d .write-states .ensures ∙ fresh-post (a .head) (j .bytes .result) (now (a .state)) (k .copy .last .1 .0) (j .bytes .ensures)
+    (k .copy .ensures .1) (d .before .before .empty .ensures)
 
 pub write-fresh-spec : {M : Type 1} → statement M
 write-fresh-spec =

@@ -14,7 +14,8 @@ use Rattle.post.proofs.written.write_outputs.Statement.{statement}
 use Rattle.post.proofs.written.write_outputs.Tie as tie
 
 abbrev Inv-loop : tie.InvT-loop
-Inv-loop head output₀ turns leads i₀ output i = (i ≤ head .leads) × Filling 0 outputSize (λ k. turnShown (head .ratings) (getD turns k emptyTurn)) output₀ output i
+Inv-loop head output₀ turns leads i₀ output i = (i ≤ head .leads) × Filling 0 outputSize
+    (λ k. turnShown (head .ratings) (getD turns k emptyTurn)) output₀ output i
 
 abbrev μ-loop : tie.MeasureT-loop
 μ-loop head output₀ turns leads i₀ output i = head .leads - i
@@ -33,8 +34,12 @@ loop-again c =
     let i = k .loop .i in
     let at : ℕ = outputSize * i in
     let F : ℕ → List ℕ = λ k. turnShown (a .head .ratings) (getD (a .t2) k emptyTurn) in
-    let copied = c .before .before .copy in
-    (omega arith, filled-copy outputSize F (λ k. output-length _ _ _ _) 0 (now (a .output)) i at (at + outputSize - at) (k .loop .output) (j .bytes .result) (copied .last .1 .0) (omega arith) (omega arith) (omega arith) (add-sub-cancel-left at outputSize) (j .bytes .ensures) (k .loop .inv .1) (copied .ensures .1))
+    let copied = c .before .before .copy in (
+      omega arith,
+      filled-copy outputSize F (λ k. output-length _ _ _ _) 0 (now (a .output)) i at (at + outputSize - at) (k .loop .output)
+          (j .bytes .result) (copied .last .1 .0) (omega arith) (omega arith) (omega arith) (add-sub-cancel-left at outputSize)
+          (j .bytes .ensures) (k .loop .inv .1) (copied .ensures .1),
+    )
 
 same-length : tie.Need-same-length Inv-loop μ-loop
 same-length c = c .before .loop .inv .1 .0
@@ -44,7 +49,8 @@ returns c =
     let k = c .before in
     let a = k .before .before .before .args in
     let F : ℕ → List ℕ = λ k. turnShown (a .head .ratings) (getD (a .t2) k emptyTurn) in
-    filled-all outputSize F (λ k. output-length _ _ _ _) 0 (now (a .output)) (a .head .leads) (k .loop .i) _ (omega arith) (omega arith) (k .loop .inv .1)
+    filled-all outputSize F (λ k. output-length _ _ _ _) 0 (now (a .output)) (a .head .leads) (k .loop .i) _ (omega arith) (omega arith)
+    (k .loop .inv .1)
 
 pub write-outputs-spec : {M : Type 1} → statement M
 write-outputs-spec =

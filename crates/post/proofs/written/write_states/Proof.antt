@@ -16,7 +16,8 @@ use Rattle.post.proofs.written.write_states.Statement.{statement}
 use Rattle.post.proofs.written.write_states.Tie as tie
 
 abbrev Inv-loop : tie.InvT-loop
-Inv-loop leads state₀ turns leads' i₀ state i = (i ≤ leads) × Filling headSize stateSize (λ k. encode (getD turns k emptyTurn .lead)) state₀ state i
+Inv-loop leads state₀ turns leads' i₀ state i = (i ≤ leads) × Filling headSize stateSize (λ k. encode (getD turns k emptyTurn .lead)) state₀
+    state i
 
 abbrev μ-loop : tie.MeasureT-loop
 μ-loop leads state₀ turns leads' i₀ state i = leads - i
@@ -35,8 +36,12 @@ loop-again c =
     let i = k .loop .i in
     let at : ℕ = headSize + stateSize * i in
     let F : ℕ → List ℕ = λ k. encode (getD (a .t2) k emptyTurn .lead) in
-    let copied = c .before .before .copy in
-    (omega arith, filled-copy stateSize F (λ k. encode-length _) headSize (now (a .state)) i at (at + stateSize - at) (k .loop .state) (j .bytes .result) (copied .last .1 .0) (omega arith) (omega arith) refl (add-sub-cancel-left at stateSize) (j .bytes .ensures) (k .loop .inv .1) (copied .ensures .1))
+    let copied = c .before .before .copy in (
+      omega arith,
+      filled-copy stateSize F (λ k. encode-length _) headSize (now (a .state)) i at (at + stateSize - at) (k .loop .state)
+          (j .bytes .result) (copied .last .1 .0) (omega arith) (omega arith) refl (add-sub-cancel-left at stateSize) (j .bytes .ensures)
+          (k .loop .inv .1) (copied .ensures .1),
+    )
 
 same-length : tie.Need-same-length Inv-loop μ-loop
 same-length c = c .before .loop .inv .1 .0
@@ -46,7 +51,8 @@ returns c =
     let k = c .before in
     let a = k .before .before .args in
     let F : ℕ → List ℕ = λ k. encode (getD (a .t2) k emptyTurn .lead) in
-    filled-all stateSize F (λ k. encode-length _) headSize (now (a .state)) (a .leads) (k .loop .i) _ (k .before .before .pre .1) (omega arith) (k .loop .inv .1)
+    filled-all stateSize F (λ k. encode-length _) headSize (now (a .state)) (a .leads) (k .loop .i) _ (k .before .before .pre .1)
+    (omega arith) (k .loop .inv .1)
 
 pub write-states-spec : {M : Type 1} → statement M
 write-states-spec =

@@ -1,6 +1,6 @@
 -- `post::head::Head::read` meets its contract. By the numbers that are read. Assumes nothing.
-use Rattle.post.specs.Heads.{headOf}
 use borrow.Author.Needs.{needs}
+use Rattle.post.specs.Heads.{headOf}
 use Rattle.post.proofs.head.Head.read.Statement.{statement}
 use Rattle.post.proofs.head.Head.read.Tie as tie
 

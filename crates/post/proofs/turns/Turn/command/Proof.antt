@@ -1,6 +1,6 @@
 -- `post::turns::Turn::command` meets its contract. By the lead's command. Assumes nothing.
-use Rattle.post.specs.Turns.{commandedTurn}
 use borrow.Author.Needs.{needs}
+use Rattle.post.specs.Turns.{commandedTurn}
 use Rattle.post.proofs.turns.Turn.command.Statement.{statement}
 use Rattle.post.proofs.turns.Turn.command.Tie as tie
 

@@ -1,6 +1,6 @@
 -- `post::turns::Turn::decided` meets its contract. By the records that are read and the lead's decision. Assumes nothing.
-use Rattle.post.specs.Turns.{decidedTurn}
 use borrow.Author.Needs.{needs}
+use Rattle.post.specs.Turns.{decidedTurn}
 use Rattle.post.proofs.turns.Turn.decided.Statement.{statement}
 use Rattle.post.proofs.turns.Turn.decided.Tie as tie
 
