@@ -188,3 +188,29 @@ taken-whole state input room e =
 pub tick-taken : {h : Head} {state input : List ℕ} {room : ℕ} → h ≡ headOf state → tickRefusal state input room ≡ 0 → TickTaken h state
     input room
 tick-taken {state = state} {input = input} {room = room} own e = rw own (taken-whole state input room e)
+
+-- a setup is refused with 1 to 5
+pub setup-not-6 : (leads volts amperes resistance room : ℕ) → setupRefusal leads volts amperes resistance room ≡ 6 → ⊥
+unfolding setupRefusal headRefusal
+setup-not-6 leads volts amperes resistance room =
+    go (between 1 4 leads) (between 50 500 volts) (between 1 200 amperes) (allowedResistance resistance) (eqb room (stateLength leads))
+  where
+    go : (a b c d e : Bool) → firstOf (firstOf (unless a 1 ∷ unless b 2 ∷ unless c 3 ∷ unless d 4 ∷ []) ∷ unless e 5 ∷ []) ≡ 6 → ⊥
+    go false b c d e six = omega arith
+    go true false c d e six = omega arith
+    go true true false d e six = omega arith
+    go true true true false e six = omega arith
+    go true true true true false six = omega arith
+    go true true true true true six = omega arith
+
+-- a tick of a post with 7 to 9
+pub tick-not-6 : (leads : ℕ) (input : List ℕ) (room : ℕ) → inputRefusal leads input room ≡ 6 → ⊥
+unfolding inputRefusal
+tick-not-6 leads input room =
+    go (eqb (length input) (inputLength leads)) (eqb room (outputLength leads)) (every leads (λ k. goodInput (inputPart input k)))
+  where
+    go : (a b c : Bool) → firstOf (unless a 7 ∷ unless b 8 ∷ unless c 9 ∷ []) ≡ 6 → ⊥
+    go false b c six = omega arith
+    go true false c six = omega arith
+    go true true false six = omega arith
+    go true true true six = omega arith

@@ -1,39 +1,33 @@
--- A post's bytes and the post: read again it is the same, it is good where its head and its leads are, and a tick of its bytes is
--- the rules' tick. Assumes nothing.
-use mathlib.Core.Bool.{false, cond}
+-- A post's bytes: read again they are the same post, and they are good where its head and its leads are; a good state that was handed in,
+-- read and written again, is the same. Assumes nothing.
 use mathlib.Core.List.{List, [], _∷_, _++_, append-nil}
-use mathlib.Core.Path.{_≡_, refl, sym, ap, _∙_}
+use mathlib.Core.Path.{_≡_, sym, ap, _∙_}
 use Prim.Native.Nat.{ℕ, zero, suc, _+_, _*_, _≤_, _<_}
 use native.Mathlib.Omega.{arith}
-use lib.Dec.{T, eqb}
+use lib.Dec.{T}
 use lib.ListN.{length, getD, take, drop, length-append, length-drop, drop-of-length-le}
-use lib.Seq.{take-at, length-take-le, getD-drop}
+use lib.Seq.{length-take-le, getD-drop}
 use borrow.Author.Tests.{eq-eqb}
 use Rattle.little_endian.specs.Numbers.{byteAt, u16At, lowByte, highByte}
 use Rattle.little_endian.proofs.Spelled.{spelled-is}
 use Rattle.little_endian.proofs.Bytes.{u16-back, u32-back, low-byte-back, high-byte-back, low-half-back, high-half-back}
 use Rattle.readings.proofs.Tests.{is-true}
-use Rattle.sharing.proofs.Laws.{level-same}
 use Rattle.lead.specs.Good.{goodLead}
-use Rattle.lead.specs.Power.{wantedWatts, commanded}
-use Rattle.lead.specs.Moves.{decide}
 use Rattle.lead.specs.declared.state.Lead.{Lead}
 use Rattle.lead.specs.Hearing.{fresh}
-use Rattle.lead.proofs.Goodness.{fresh-good, good-stays}
+use Rattle.lead.proofs.Goodness.{fresh-good}
 use Rattle.lead_records.specs.States.{stateSize, decode, encode, goodState}
 use Rattle.lead_records.proofs.RoundTrip.{decode-encode, encode-decode, encode-length, encode-good, good-clear, good-lead}
-use Rattle.lead_records.specs.Outputs.{outputSize}
-use Rattle.lead_records.proofs.Shown.{output-length, output-command}
 use Rattle.post.specs.Parts.{part, joined}
 use Rattle.post.specs.Heads.{headSize, stateLength, headOf, headBytes}
-use Rattle.post.specs.Rules.{limitOf, inputAt, decidedAt, wantAfter, levelAfter, leadAfter, shownAt, postBytes, shownBytes}
-use Rattle.post.specs.Refusals.{goodHead, goodPost, inputRefusal, tickRefusal}
-use Rattle.post.specs.Calls.{leadsOf, leadsAfter, Ticked, tickOf}
+use Rattle.post.specs.Rules.{postBytes}
+use Rattle.post.specs.Refusals.{goodHead, goodPost}
+use Rattle.post.specs.Calls.{leadsOf}
 use Rattle.post.specs.declared.head.Head.{Head}
 use Rattle.post.proofs.Joined.{joined-same, joined-length, part-joined, records-back}
 use Rattle.post.proofs.Every.{every-of, every-at}
 use Rattle.post.proofs.FreshPosts.{head-length}
-use Rattle.post.proofs.Asked.{last-refused, good-taken, post-head, post-length, post-leads}
+use Rattle.post.proofs.Asked.{post-head, post-length, post-leads}
 
 -- the head, whatever stands behind it
 pub head-back : (h : Head) (rest : List ℕ) → headOf (headBytes h ++ rest) ≡ h
@@ -156,95 +150,3 @@ module _ (state : List ℕ) (good : T (goodPost state)) where
         ∙ sym (append-nil _)
         ∙ ap (λ (x : List ℕ). take headSize state ++ joined (read .leads) record-at ++ x) (sym (drop-of-length-le state none))
         ∙ records-back headSize stateSize state (read .leads)
-
--- a tick looks at the post's leads alone
-module _ (h : Head) (input : List ℕ) (v w : ℕ → Lead) (same : (k : ℕ) → k < h .leads → v k ≡ w k) where
-  decided-same : (k : ℕ) → k < h .leads → decidedAt h input v k ≡ decidedAt h input w k
-  unfolding decidedAt
-  decided-same k below = ap (decide (h .ratings) (inputAt h input k)) (same k below)
-
-  level-agrees : levelAfter h input v ≡ levelAfter h input w
-  unfolding levelAfter
-  level-agrees =
-      level-same (h .leads) (wantAfter h input v) (wantAfter h input w) (limitOf input)
-      (λ k below. ap (wantedWatts (h .ratings)) (decided-same k below))
-
-  after-same : (k : ℕ) → k < h .leads → leadAfter h input v k ≡ leadAfter h input w k
-  unfolding leadAfter
-  after-same k below =
-      ap (λ (n : ℕ). commanded (h .ratings) n (decidedAt h input v k)) level-agrees
-      ∙ ap (commanded (h .ratings) (levelAfter h input w)) (decided-same k below)
-
-module _ (h : Head) (input : List ℕ) (leads : ℕ → Lead) where
-  -- a sound post stays sound
-  pub sound-stays : Sound h leads → Sound h (leadAfter h input leads)
-  unfolding leadAfter decidedAt
-  sound-stays s =
-      record {
-        head = s .head;
-        each =
-            λ k below.
-            good-stays (h .ratings) (inputAt h input k) (leads k) (good-taken h (s .head) .volts-least) (levelAfter h input leads)
-            (s .each k below);
-      }
-
-  -- what a tick of a sound post's bytes returns and leaves: nothing but its input and its output can be refused
-  abbrev pub ruledTick : List ℕ → Ticked
-  ruledTick output =
-      let refusal : ℕ = inputRefusal (h .leads) input (length output) in
-      cond (eqb refusal 0)
-      (record { number = 0; state = postBytes h (leadAfter h input leads); output = shownBytes h input (leadAfter h input leads) })
-      (record { number = refusal; state = postBytes h leads; output = output })
-
-  module _ (s : Sound h leads) where
-    abbrev mine : List ℕ
-    mine = postBytes h leads
-
-    refusal-is : (room : ℕ) → tickRefusal mine input room ≡ inputRefusal (h .leads) input room
-    unfolding tickRefusal
-    refusal-is room =
-        rw (is-true (goodPost mine) (sound-good h leads s), post-head-back h leads)
-        (sym (last-refused (inputRefusal (h .leads) input room)))
-
-    leads-are : (k : ℕ) → k < h .leads → leadsAfter mine input k ≡ leadAfter h input leads k
-    leads-are k below =
-        ap (λ (g : Head). leadAfter g input (leadsOf mine) k) (post-head-back h leads)
-        ∙ after-same h input (leadsOf mine) leads (lead-back h leads) k below
-
-    state-is : take headSize mine ++ joined (headOf mine .leads) (λ k. encode (leadsAfter mine input k)) ≡ postBytes h
-        (leadAfter h input leads)
-    unfolding postBytes
-    state-is =
-        rw (take-at (headBytes h) (joined (h .leads) (λ k. encode (leads k))) headSize (head-length h))
-        (ap (λ (n : ℕ). headBytes h ++ joined n (λ k. encode (leadsAfter mine input k)))
-        (ap (λ (g : Head). g .leads) (post-head-back h leads))
-        ∙ ap (λ (r : List ℕ). headBytes h ++ r)
-        (joined-same (h .leads) (λ k. encode (leadsAfter mine input k)) (λ k. encode (leadAfter h input leads k))
-        (λ k below. ap encode (leads-are k below))))
-
-    output-is : shownBytes (headOf mine) input (leadsAfter mine input) ≡ shownBytes h input (leadAfter h input leads)
-    unfolding shownBytes
-    output-is =
-        ap (λ (g : Head). shownBytes g input (leadsAfter mine input)) (post-head-back h leads)
-        ∙ joined-same (h .leads) (λ k. shownAt h input (leadsAfter mine input k) k) (λ k. shownAt h input (leadAfter h input leads k) k)
-        (λ k below. ap (λ (l : Lead). shownAt h input l k) (leads-are k below))
-
-    pub tick-is : (output : List ℕ) → tickOf mine input output ≡ ruledTick output
-    unfolding tickOf
-    tick-is output = rw (refusal-is (length output), state-is, output-is)
-
--- byte 2 of what lead k shows is its command
-pub shown-command :
-    (h : Head) (input : List ℕ) (leads : ℕ → Lead) (k : ℕ) → k < h .leads → byteAt (part 0 outputSize k (shownBytes h input leads)) 2 ≡
-    leads k .command
-unfolding shownBytes
-shown-command h input leads k below =
-    ap (λ (b : List ℕ). byteAt b 2)
-    (part-joined outputSize (λ j. shownAt h input (leads j) j) (λ j. output-length (h .ratings) _ _ (leads j)) [] 0 (h .leads) k refl below)
-    ∙ output-command (h .ratings) _ _ (leads k)
-
--- bytes that are no good state
-pub tick-unusable : (state input output : List ℕ) → goodPost state ≡ false → tickOf state input output ≡ record
-    { number = 6; state = state; output = output }
-unfolding tickOf tickRefusal
-tick-unusable state input output bad = rw bad

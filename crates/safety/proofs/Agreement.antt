@@ -12,7 +12,8 @@ use Rattle.post.specs.Refusals.{setupRefusal, goodPost, inputRefusal}
 use Rattle.post.specs.Calls.{setupOf}
 use Rattle.post.specs.declared.head.Head.{Head}
 use Rattle.post.proofs.Asked.{setup-good-head}
-use Rattle.post.proofs.Posts.{Sound, fresh-sound, sound-stays, tick-is, tick-unusable}
+use Rattle.post.proofs.Posts.{Sound, fresh-sound}
+use Rattle.post.proofs.RuledTicks.{sound-stays, tick-is, tick-unusable}
 use Rattle.safety.specs.Lists.{Call, setup, tick, Answer, answer, answers}
 use Rattle.safety.specs.Trace.{Kept, post, unusable, keptBytes, ruled, answered, trace}
 

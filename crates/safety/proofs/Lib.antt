@@ -1,4 +1,6 @@
--- Demand 3 over the trace of document 01's rules: what one tick does to one lead, then a file for each claim, and the demand from them all.
+-- Demand 3 over the trace of document 01's rules: what one tick does to one lead (Steps), then a file for each claim (Closed to Zeros), and
+-- the demand from them all (OverRules). That the bytes follow the rules, call by call (Agreement, Outputs, Numbers). The demands over every
+-- list of calls (Demands). What the checker computes: the starred cases and a session.
 pub mod Steps
 pub mod Closed
 pub mod Heard

@@ -6,45 +6,14 @@ use Prim.Native.Nat.{ℕ, zero, suc}
 use native.Mathlib.Omega.{arith}
 use lib.Dec.{T, eqb}
 use lib.ListN.{length, getD}
-use Rattle.readings.specs.Readings.{allowedResistance}
-use Rattle.lead.specs.Names.{between}
-use Rattle.lead_records.specs.Inputs.{goodInput}
-use Rattle.post.specs.Parts.{every}
-use Rattle.post.specs.Heads.{stateLength, inputLength, outputLength}
-use Rattle.post.specs.Rules.{inputPart}
-use Rattle.post.specs.Refusals.{unless, firstOf, headRefusal, setupRefusal, inputRefusal}
+use Rattle.post.specs.Refusals.{setupRefusal, inputRefusal}
+use Rattle.post.proofs.Asked.{setup-not-6, tick-not-6}
 use Rattle.safety.specs.Lists.{Call, setup, tick, Answer}
 use Rattle.safety.specs.Trace.{Kept, post, unusable, Ruled, ruled, trace}
 
 -- past the end of a list of answers
 abbrev pub noAnswer : Answer
 noAnswer = record { number = 0; state = []; lent = [] }
-
--- a setup is refused with 1 to 5
-setup-not-6 : (leads volts amperes resistance room : ℕ) → setupRefusal leads volts amperes resistance room ≡ 6 → ⊥
-unfolding setupRefusal headRefusal
-setup-not-6 leads volts amperes resistance room =
-    go (between 1 4 leads) (between 50 500 volts) (between 1 200 amperes) (allowedResistance resistance) (eqb room (stateLength leads))
-  where
-    go : (a b c d e : Bool) → firstOf (firstOf (unless a 1 ∷ unless b 2 ∷ unless c 3 ∷ unless d 4 ∷ []) ∷ unless e 5 ∷ []) ≡ 6 → ⊥
-    go false b c d e six = omega arith
-    go true false c d e six = omega arith
-    go true true false d e six = omega arith
-    go true true true false e six = omega arith
-    go true true true true false six = omega arith
-    go true true true true true six = omega arith
-
--- a tick of a post with 7 to 9
-tick-not-6 : (leads : ℕ) (input : List ℕ) (room : ℕ) → inputRefusal leads input room ≡ 6 → ⊥
-unfolding inputRefusal
-tick-not-6 leads input room =
-    go (eqb (length input) (inputLength leads)) (eqb room (outputLength leads)) (every leads (λ k. goodInput (inputPart input k)))
-  where
-    go : (a b c : Bool) → firstOf (unless a 7 ∷ unless b 8 ∷ unless c 9 ∷ []) ≡ 6 → ⊥
-    go false b c six = omega arith
-    go true false c six = omega arith
-    go true true false six = omega arith
-    go true true true six = omega arith
 
 abbrev pub isPost : Kept → Bool
 isPost (post h leads) = true

@@ -12,7 +12,8 @@ use Rattle.post.specs.Rules.{leadAfter, postBytes, shownBytes}
 use Rattle.post.specs.Refusals.{inputRefusal}
 use Rattle.post.specs.Calls.{setupOf, Ticked}
 use Rattle.post.specs.declared.head.Head.{Head}
-use Rattle.post.proofs.Posts.{Sound, sound-stays, ruledTick, tick-is, shown-command}
+use Rattle.post.proofs.Posts.{Sound}
+use Rattle.post.proofs.RuledTicks.{sound-stays, ruledTick, tick-is, shown-command}
 use Rattle.safety.specs.Lists.{Call, setup, tick, Tick, ticksOf}
 use Rattle.safety.specs.Demand3.{given, commandAt, leadsBefore}
 

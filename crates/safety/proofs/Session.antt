@@ -1,7 +1,6 @@
 -- The session, computed: phase, reason and command of both leads. Assumes nothing.
-use mathlib.Core.List.{List, [], _∷_}
+use mathlib.Core.List.{[], _∷_}
 use mathlib.Core.Path.{_≡_, refl}
-use Prim.Native.Nat.{ℕ}
 use lib.Ieee.{ofBits, ofInt, le, lt, eq, mul, sub}
 use Rattle.readings.specs.Value.{least}
 use Rattle.readings.specs.Readings.{inRange, connectorVolts, inSteps, allowedResistance}

@@ -1,12 +1,11 @@
 -- The commands of a tick stay within the allowance, and each lead gets at least what its want or an equal part carries. Assumes nothing.
 use mathlib.Core.List.{List}
-use mathlib.Core.Path.{_≡_, refl}
 use Prim.Native.Nat.{ℕ, zero, suc, _*_, _/_, _≤_, min}
 use native.Mathlib.Nat.{le-trans, div-zero, div-mul-le-self, le-div-iff-mul-le}
 use native.Mathlib.Omega.{arith}
 use Rattle.sharing.specs.Level.{sum, given, equalPart}
 use Rattle.sharing.proofs.Sums.{sum-le}
-use Rattle.sharing.proofs.Laws.{level-fits, level-shares}
+use Rattle.sharing.proofs.Laws.{given-is, level-fits, level-shares}
 use Rattle.lead.specs.declared.state.Lead.{Lead}
 use Rattle.lead.proofs.Commands.{command-threshold, command-is, command-watts}
 use Rattle.post.specs.Rules.{decidedAt, levelAfter, leadAfter}
@@ -15,10 +14,6 @@ use Rattle.safety.specs.Lists.{Tick}
 use Rattle.safety.specs.Demand3 as demand
 use Rattle.safety.specs.Demand3.{leadsBefore, thresholdAt, wantAt, limitAt}
 use Rattle.safety.proofs.Steps.{levelAt, command}
-
-given-is : (n : ℕ) (wants : ℕ → ℕ) (level : ℕ) → given n wants level ≡ sum n (λ k. min (wants k) level)
-unfolding given
-given-is n wants level = refl
 
 quotients-grow : (d m n : ℕ) → m ≤ n → m / d ≤ n / d
 quotients-grow zero m n h = rw (div-zero m) (omega arith)

@@ -10,6 +10,10 @@ use borrow.Author.Tests.{leb-true, le-leb}
 use Rattle.sharing.specs.Level.{sum, given, fits, levelOf, oneIfAny, equalPart}
 use Rattle.sharing.proofs.Sums.{sum-le, sum-times, largest-within, largest-passes, largest-most, largest-same}
 
+pub given-is : (n : ℕ) (wants : ℕ → ℕ) (level : ℕ) → given n wants level ≡ sum n (λ k. min (wants k) level)
+unfolding given
+given-is n wants level = refl
+
 module _ (n : ℕ) (wants : ℕ → ℕ) where
   -- nobody gets less at a higher level
   given-grows : (i j : ℕ) → i ≤ j → given n wants i ≤ given n wants j
