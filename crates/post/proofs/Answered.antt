@@ -1,16 +1,14 @@
 -- What a call returns and leaves, done or refused; r is the number that the code worked out. Assumes nothing.
-use mathlib.Core.List.{List, _++_}
+use mathlib.Core.List.{List}
 use mathlib.Core.Path.{_≡_}
 use Prim.Native.Nat.{ℕ}
-use lib.ListN.{length, take}
+use lib.ListN.{length}
 use borrow.Author.Tests.{ne-eqb}
 use Rattle.lead.specs.Hearing.{fresh}
-use Rattle.lead_records.specs.States.{encode}
-use Rattle.post.specs.Parts.{joined}
-use Rattle.post.specs.Heads.{headSize, headFrom, headOf}
-use Rattle.post.specs.Rules.{postBytes, shownBytes}
+use Rattle.post.specs.Heads.{headFrom}
+use Rattle.post.specs.Rules.{postBytes}
 use Rattle.post.specs.Refusals.{setupRefusal, tickRefusal}
-use Rattle.post.specs.Calls.{SetUp, setupOf, leadsAfter, Ticked, tickOf}
+use Rattle.post.specs.Calls.{SetUp, setupOf, Ticked, tickOf, stateAfter, outputAfter}
 
 module _ (leads volts amperes resistance : ℕ) (state : List ℕ) {r : ℕ} (e : r ≡ setupRefusal leads volts amperes resistance (length state))
   where
@@ -30,8 +28,8 @@ module _ (state input output : List ℕ) {r : ℕ} (e : r ≡ tickRefusal state 
   pub tick-done :
       {after shown : List ℕ}
       → r ≡ 0
-      → after ≡ take headSize state ++ joined (headOf state .leads) (λ k. encode (leadsAfter state input k))
-      → shown ≡ shownBytes (headOf state) input (leadsAfter state input)
+      → after ≡ stateAfter state input
+      → shown ≡ outputAfter state input
       → _≡_ {A = Ticked} (record { number = r; state = after; output = shown }) (tickOf state input output)
   unfolding tickOf
   tick-done z a b = rw (← e, z, a, b)

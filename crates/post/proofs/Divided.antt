@@ -12,8 +12,8 @@ use Rattle.lead.proofs.Commands.{watts-are, want-0}
 use Rattle.lead_records.specs.States.{encode}
 use Rattle.post.specs.Parts.{joined}
 use Rattle.post.specs.Heads.{headSize, headOf}
-use Rattle.post.specs.Rules.{limitOf, decidedAt, wantAfter, levelAfter, leadAfter, shownAt, shownBytes}
-use Rattle.post.specs.Calls.{leadsOf, leadsAfter}
+use Rattle.post.specs.Rules.{limitOf, decidedAt, wantAfter, levelAfter, leadAfter, shownAt, outputBytes}
+use Rattle.post.specs.Calls.{leadsOf, stateAfter, outputAfter}
 use Rattle.post.specs.Turns.{emptyTurn, decidedTurn, turnAt, among, commandedTurn, turnShown}
 use Rattle.post.specs.declared.head.Head.{Head}
 use Rattle.post.specs.declared.turns.Turn.{Turn}
@@ -60,8 +60,8 @@ module _ (h : Head) (input : List ℕ) (leads : ℕ → Lead) (few : h .leads �
       joined-same (h .leads) (λ k. encode (getD next k emptyTurn .lead)) (λ k. encode (leadAfter h input leads k))
       (λ k below. ap (λ (t : Turn). encode (t .lead)) (next-is k below))
 
-  outputs-are : joined (h .leads) (λ k. turnShown (h .ratings) (getD next k emptyTurn)) ≡ shownBytes h input (leadAfter h input leads)
-  unfolding shownBytes
+  outputs-are : joined (h .leads) (λ k. turnShown (h .ratings) (getD next k emptyTurn)) ≡ outputBytes h input (leadAfter h input leads)
+  unfolding outputBytes
   outputs-are =
       joined-same (h .leads) (λ k. turnShown (h .ratings) (getD next k emptyTurn)) (λ k. shownAt h input (leadAfter h input leads k) k)
       next-shows
@@ -73,14 +73,14 @@ module _ (state input : List ℕ) {h : Head} (own : h ≡ headOf state) (few : h
     (powered : (k : ℕ) → k < places → getD next k emptyTurn ≡ commandedTurn (h .ratings) level (getD turns k emptyTurn)) where
   pub state-after :
       take headSize state ++ joined (h .leads) (λ k. encode (getD next k emptyTurn .lead))
-      ≡ take headSize state ++ joined (headOf state .leads) (λ k. encode (leadsAfter state input k))
+      ≡ stateAfter state input
   state-after =
       ap (λ (r : List ℕ). take headSize state ++ r)
       (states-are h input (leadsOf state) few turns next level decided levelled powered
       ∙ ap (λ (g : Head). joined (g .leads) (λ k. encode (leadAfter g input (leadsOf state) k))) own)
 
   pub output-after :
-      joined (h .leads) (λ k. turnShown (h .ratings) (getD next k emptyTurn)) ≡ shownBytes (headOf state) input (leadsAfter state input)
+      joined (h .leads) (λ k. turnShown (h .ratings) (getD next k emptyTurn)) ≡ outputAfter state input
   output-after =
       outputs-are h input (leadsOf state) few turns next level decided levelled powered
-      ∙ ap (λ (g : Head). shownBytes g input (leadAfter g input (leadsOf state))) own
+      ∙ ap (λ (g : Head). outputBytes g input (leadAfter g input (leadsOf state))) own

@@ -4,7 +4,7 @@ use mathlib.Core.List.{List, [], _++_}
 use mathlib.Core.Path.{_≡_, refl, sym, ap, _∙_}
 use Prim.Native.Nat.{ℕ, _+_, _<_}
 use lib.Dec.{eqb}
-use lib.ListN.{length, take}
+use lib.ListN.{length}
 use lib.Seq.{take-at}
 use Rattle.little_endian.specs.Numbers.{byteAt}
 use Rattle.readings.proofs.Tests.{is-true}
@@ -17,10 +17,10 @@ use Rattle.lead_records.specs.States.{encode}
 use Rattle.lead_records.specs.Outputs.{outputSize}
 use Rattle.lead_records.proofs.Shown.{output-length, output-command}
 use Rattle.post.specs.Parts.{part, joined}
-use Rattle.post.specs.Heads.{headSize, headOf, headBytes}
-use Rattle.post.specs.Rules.{limitOf, inputAt, decidedAt, wantAfter, levelAfter, leadAfter, shownAt, postBytes, shownBytes}
+use Rattle.post.specs.Heads.{headSize, headBytes}
+use Rattle.post.specs.Rules.{limitOf, inputAt, decidedAt, wantAfter, levelAfter, leadAfter, shownAt, postBytes, outputBytes}
 use Rattle.post.specs.Refusals.{goodPost, inputRefusal, tickRefusal}
-use Rattle.post.specs.Calls.{leadsOf, leadsAfter, Ticked, tickOf}
+use Rattle.post.specs.Calls.{leadsOf, leadsAfter, Ticked, tickOf, stateAfter, outputAfter}
 use Rattle.post.specs.declared.head.Head.{Head}
 use Rattle.post.proofs.Joined.{joined-same, part-joined}
 use Rattle.post.proofs.FreshPosts.{head-length}
@@ -63,7 +63,7 @@ module _ (h : Head) (input : List ℕ) (leads : ℕ → Lead) where
   ruledTick output =
       let refusal : ℕ = inputRefusal (h .leads) input (length output) in
       cond (eqb refusal 0)
-      (record { number = 0; state = postBytes h (leadAfter h input leads); output = shownBytes h input (leadAfter h input leads) })
+      (record { number = 0; state = postBytes h (leadAfter h input leads); output = outputBytes h input (leadAfter h input leads) })
       (record { number = refusal; state = postBytes h leads; output = output })
 
   module _ (s : Sound h leads) where
@@ -81,7 +81,7 @@ module _ (h : Head) (input : List ℕ) (leads : ℕ → Lead) where
         ap (λ (g : Head). leadAfter g input (leadsOf mine) k) (post-head-back h leads)
         ∙ after-same h input (leadsOf mine) leads (lead-back h leads) k below
 
-    state-is : take headSize mine ++ joined (headOf mine .leads) (λ k. encode (leadsAfter mine input k)) ≡ postBytes h
+    state-is : stateAfter mine input ≡ postBytes h
         (leadAfter h input leads)
     unfolding postBytes
     state-is =
@@ -92,10 +92,10 @@ module _ (h : Head) (input : List ℕ) (leads : ℕ → Lead) where
         (joined-same (h .leads) (λ k. encode (leadsAfter mine input k)) (λ k. encode (leadAfter h input leads k))
         (λ k below. ap encode (leads-are k below))))
 
-    output-is : shownBytes (headOf mine) input (leadsAfter mine input) ≡ shownBytes h input (leadAfter h input leads)
-    unfolding shownBytes
+    output-is : outputAfter mine input ≡ outputBytes h input (leadAfter h input leads)
+    unfolding outputBytes
     output-is =
-        ap (λ (g : Head). shownBytes g input (leadsAfter mine input)) (post-head-back h leads)
+        ap (λ (g : Head). outputBytes g input (leadsAfter mine input)) (post-head-back h leads)
         ∙ joined-same (h .leads) (λ k. shownAt h input (leadsAfter mine input k) k) (λ k. shownAt h input (leadAfter h input leads k) k)
         (λ k below. ap (λ (l : Lead). shownAt h input l k) (leads-are k below))
 
@@ -105,9 +105,9 @@ module _ (h : Head) (input : List ℕ) (leads : ℕ → Lead) where
 
 -- byte 2 of what lead k shows is its command
 pub shown-command :
-    (h : Head) (input : List ℕ) (leads : ℕ → Lead) (k : ℕ) → k < h .leads → byteAt (part 0 outputSize k (shownBytes h input leads)) 2 ≡
+    (h : Head) (input : List ℕ) (leads : ℕ → Lead) (k : ℕ) → k < h .leads → byteAt (part 0 outputSize k (outputBytes h input leads)) 2 ≡
     leads k .command
-unfolding shownBytes
+unfolding outputBytes
 shown-command h input leads k below =
     ap (λ (b : List ℕ). byteAt b 2)
     (part-joined outputSize (λ j. shownAt h input (leads j) j) (λ j. output-length (h .ratings) _ _ (leads j)) [] 0 (h .leads) k refl below)

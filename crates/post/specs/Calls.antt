@@ -9,7 +9,7 @@ use Rattle.lead.specs.declared.state.Lead.{Lead}
 use Rattle.lead_records.specs.States.{stateSize, decode, encode}
 use Rattle.post.specs.Parts.{part, joined}
 use Rattle.post.specs.Heads.{headSize, headFrom, headOf}
-use Rattle.post.specs.Rules.{leadAfter, postBytes, shownBytes}
+use Rattle.post.specs.Rules.{leadAfter, postBytes, outputBytes}
 use Rattle.post.specs.Refusals.{setupRefusal, tickRefusal}
 
 -- what setup leaves of its state
@@ -30,9 +30,15 @@ setupOf leads volts amperes resistance state =
 unfoldable pub leadsOf : List ℕ → ℕ → Lead
 leadsOf state k = decode (part headSize stateSize k state)
 
--- the post's leads after the tick
+-- the post's leads after the tick, and the bytes of its state and output: the head stays as it is, each lead's record is written
 abbrev pub leadsAfter : List ℕ → List ℕ → ℕ → Lead
 leadsAfter state input = leadAfter (headOf state) input (leadsOf state)
+
+abbrev pub stateAfter : List ℕ → List ℕ → List ℕ
+stateAfter state input = take headSize state ++ joined (headOf state .leads) (λ k. encode (leadsAfter state input k))
+
+abbrev pub outputAfter : List ℕ → List ℕ → List ℕ
+outputAfter state input = outputBytes (headOf state) input (leadsAfter state input)
 
 -- what a tick leaves of its state and its output
 pub record Ticked : Type 0 where
@@ -40,14 +46,9 @@ pub record Ticked : Type 0 where
   pub state : List ℕ
   pub output : List ℕ
 
--- The head stays as it is; each lead's record and what it shows are written. A refusal changes no byte.
+-- A refusal changes no byte.
 unfoldable pub tickOf : List ℕ → List ℕ → List ℕ → Ticked
 tickOf state input output =
     let refusal : ℕ = tickRefusal state input (length output) in
-    cond (eqb refusal 0)
-    (record {
-      number = 0;
-      state = take headSize state ++ joined (headOf state .leads) (λ k. encode (leadsAfter state input k));
-      output = shownBytes (headOf state) input (leadsAfter state input);
-    })
+    cond (eqb refusal 0) (record { number = 0; state = stateAfter state input; output = outputAfter state input })
     (record { number = refusal; state = state; output = output })

@@ -50,5 +50,5 @@ shownAt h input lead k = outputOf (h .ratings) (inputAt h input k .contacts .loc
 unfoldable pub postBytes : Head → (ℕ → Lead) → List ℕ
 postBytes h leads = headBytes h ++ joined (h .leads) (λ k. encode (leads k))
 
-unfoldable pub shownBytes : Head → List ℕ → (ℕ → Lead) → List ℕ
-shownBytes h input leads = joined (h .leads) (λ k. shownAt h input (leads k) k)
+unfoldable pub outputBytes : Head → List ℕ → (ℕ → Lead) → List ℕ
+outputBytes h input leads = joined (h .leads) (λ k. shownAt h input (leads k) k)

@@ -1,4 +1,5 @@
 // The head of a post's state, and what setup asks of it.
+use super::numbers::Refusal;
 use lead::Ratings;
 use little_endian::high_byte;
 use little_endian::high_half;
@@ -88,16 +89,16 @@ pub(crate) fn head_refusal(leads: u32, volts: u32, amperes: u32, resistance: u32
     ensures { λ r. ⌜ r ≡ headRefusal leads volts amperes resistance ⌝ }
 {
     if !is_between(1, 4, leads) {
-        return 1;
+        return Refusal::LEADS;
     }
     if !is_between(50, 500, volts) {
-        return 2;
+        return Refusal::RATED_VOLTS;
     }
     if !is_between(1, 200, amperes) {
-        return 3;
+        return Refusal::RATED_AMPERES;
     }
     if !is_allowed_resistance(resistance) {
-        return 4;
+        return Refusal::RESISTANCE;
     }
-    0
+    Refusal::NONE
 }

@@ -2,6 +2,7 @@
 // Rests on the promises of `lead`, `lead_records`, `sharing`, `readings`, `little_endian` and `bytes`.
 mod head;
 mod lengths;
+mod numbers;
 mod refusals;
 mod ticks;
 mod turns;
@@ -9,6 +10,7 @@ mod written;
 
 use head::Head;
 use lead::Ratings;
+use numbers::Refusal;
 use refusals::setup_refusal;
 use refusals::tick_refusal;
 use ticks::carry_out;
@@ -31,7 +33,7 @@ pub extern "C" fn setup(
 {
     let room = state.len();
     let refusal = setup_refusal(leads, rated_volts, rated_amperes, resistance, room);
-    if refusal == 0 {
+    if refusal == Refusal::NONE {
         let head = Head {
             leads: leads as u8,
             ratings: Ratings {
@@ -54,7 +56,7 @@ pub extern "C" fn tick(state: &mut [u8], input: &[u8], output: &mut [u8]) -> u32
 {
     let room = output.len();
     let refusal = tick_refusal(state, input, room);
-    if refusal == 0 {
+    if refusal == Refusal::NONE {
         carry_out(state, input, output);
     }
     refusal

@@ -5,6 +5,7 @@ use super::lengths::LIMIT_SIZE;
 use super::lengths::input_length;
 use super::lengths::output_length;
 use super::lengths::state_length;
+use super::numbers::Refusal;
 use lead_records::InputRecord;
 use lead_records::StateRecord;
 ghost use mathlib.Core.Path.{_≡_};
@@ -27,13 +28,13 @@ pub(crate) fn setup_refusal(
     ensures { λ r. ⌜ r ≡ setupRefusal leads volts amperes resistance room ⌝ }
 {
     let refusal = head_refusal(leads, volts, amperes, resistance);
-    if refusal != 0 {
+    if refusal != Refusal::NONE {
         return refusal;
     }
     if room != state_length(leads as u8) {
-        return 5;
+        return Refusal::STATE_LENGTH;
     }
-    0
+    Refusal::NONE
 }
 
 fn are_good_states(head: Head, state: &[u8]) -> bool
@@ -89,22 +90,22 @@ fn input_refusal(leads: u8, input: &[u8], room: usize) -> u32
     ensures { λ r. ⌜ r ≡ inputRefusal leads (now (input .entry)) room ⌝ }
 {
     if input.len() != input_length(leads) {
-        return 7;
+        return Refusal::INPUT_LENGTH;
     }
     if room != output_length(leads) {
-        return 8;
+        return Refusal::OUTPUT_LENGTH;
     }
     if !are_good_inputs(leads, input) {
-        return 9;
+        return Refusal::INPUT;
     }
-    0
+    Refusal::NONE
 }
 
 pub(crate) fn tick_refusal(state: &[u8], input: &[u8], room: usize) -> u32
     ensures { λ r. ⌜ r ≡ tickRefusal (now (state .entry)) (now (input .entry)) room ⌝ }
 {
     if !is_good_post(state) {
-        return 6;
+        return Refusal::STATE;
     }
     let head = Head::read(state);
     input_refusal(head.leads, input, room)

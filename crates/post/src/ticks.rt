@@ -7,23 +7,17 @@ use super::written::write_outputs;
 use super::written::write_states;
 use little_endian::u32_at;
 ghost use mathlib.Core.Path.{_≡_};
-ghost use mathlib.Core.List.{_++_};
-ghost use lib.ListN.{length, take};
-ghost use Rattle.lead_records.specs.States.{encode};
-ghost use Rattle.post.specs.Parts.{joined};
-ghost use Rattle.post.specs.Heads.{headSize, headOf};
-ghost use Rattle.post.specs.Rules.{shownBytes};
+ghost use lib.ListN.{length};
 ghost use Rattle.post.specs.Refusals.{tickRefusal};
-ghost use Rattle.post.specs.Calls.{leadsAfter};
+ghost use Rattle.post.specs.Calls.{stateAfter, outputAfter};
 
 // Where the power limit stands in the input.
 const LIMIT: usize = 0;
 
 pub(crate) fn carry_out(state: &mut [u8], input: &[u8], output: &mut [u8])
     requires { ⌜ tickRefusal (now state) (now input) (length (now output)) ≡ 0 ⌝ }
-    ensures { λ _. ⌜ now (state .exit) ≡ take headSize (now (state .entry))
-        ++ joined (headOf (now (state .entry)) .leads) (λ k. encode (leadsAfter (now (state .entry)) (now (input .entry)) k)) ⌝ }
-    ensures { λ _. ⌜ now (output .exit) ≡ shownBytes (headOf (now (state .entry))) (now (input .entry)) (leadsAfter (now (state .entry)) (now (input .entry))) ⌝ }
+    ensures { λ _. ⌜ now (state .exit) ≡ stateAfter (now (state .entry)) (now (input .entry)) ⌝ }
+    ensures { λ _. ⌜ now (output .exit) ≡ outputAfter (now (state .entry)) (now (input .entry)) ⌝ }
 {
     let head = Head::read(state);
     let limit = u32_at(input, LIMIT);

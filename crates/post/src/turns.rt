@@ -66,7 +66,8 @@ impl Turn {
     fn decided(ratings: Ratings, state: &[u8], given: &[u8]) -> Turn
         requires { ⌜ (length (now state) ≡ stateSize) × (length (now given) ≡ inputSize) ⌝ }
         requires { ⌜ allowedResistance (ratings .resistance) ≡ true ⌝ }
-        ensures { λ r. ⌜ r ≡ decidedTurn ratings (decode (now (state .entry))) (inputOf (now (given .entry)) (ratings .resistance)) ⌝ }
+        ensures { λ r. ⌜ r ≡ decidedTurn ratings (decode (now (state .entry)))
+            (inputOf (now (given .entry)) (ratings .resistance)) ⌝ }
     {
         let input = InputRecord::read(given, ratings.resistance);
         let reading = input.reading;
@@ -82,7 +83,8 @@ impl Turn {
 pub(crate) fn decide_all(head: Head, state: &[u8], input: &[u8]) -> [Turn; PLACES]
     requires { ⌜ (head .leads ≤ places) × (allowedResistance (head .ratings .resistance) ≡ true) ⌝ }
     requires { ⌜ (length (now state) ≡ stateLength (head .leads)) × (length (now input) ≡ inputLength (head .leads)) ⌝ }
-    ensures { λ r. ⌜ ((k : ℕ) → getD r k emptyTurn ≡ among (head .leads) (turnAt head (now (input .entry)) (leadsOf (now (state .entry)))) k) ⌝ }
+    ensures { λ r. ⌜ ((k : ℕ) → getD r k emptyTurn
+        ≡ among (head .leads) (turnAt head (now (input .entry)) (leadsOf (now (state .entry)))) k) ⌝ }
 {
     let mut turns = [Turn::empty(); PLACES];
     let leads = head.leads as usize;

@@ -2,7 +2,6 @@
 use super::head::Head;
 use super::turns::Turn;
 use bytes::copy;
-use lead::Ratings;
 use lead_records::OutputRecord;
 use lead_records::StateRecord;
 use sharing::PLACES;
@@ -21,7 +20,8 @@ ghost use Rattle.post.specs.Turns.{emptyTurn, turnShown};
 // The head stays as it is.
 pub(crate) fn write_states(leads: u8, turns: [Turn; PLACES], state: &mut [u8])
     requires { ⌜ (leads ≤ places) × (length (now state) ≡ stateLength leads) ⌝ }
-    ensures { λ _. ⌜ now (state .exit) ≡ take headSize (now (state .entry)) ++ joined leads (λ k. encode (getD turns k emptyTurn .lead)) ⌝ }
+    ensures { λ _. ⌜ now (state .exit) ≡ take headSize (now (state .entry))
+        ++ joined leads (λ k. encode (getD turns k emptyTurn .lead)) ⌝ }
 {
     let leads = leads as usize;
     let mut i = 0;

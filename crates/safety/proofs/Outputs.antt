@@ -8,7 +8,7 @@ use lib.Dec.{eqb}
 use lib.ListN.{length}
 use Rattle.lead.specs.Hearing.{fresh}
 use Rattle.lead.specs.declared.state.Lead.{Lead}
-use Rattle.post.specs.Rules.{leadAfter, postBytes, shownBytes}
+use Rattle.post.specs.Rules.{leadAfter, postBytes, outputBytes}
 use Rattle.post.specs.Refusals.{inputRefusal}
 use Rattle.post.specs.Calls.{setupOf, Ticked}
 use Rattle.post.specs.declared.head.Head.{Head}
@@ -40,7 +40,7 @@ module _ (h : Head) where
   shown-more :
       (leads : ℕ → Lead) (input : List ℕ) (ticks : List Tick)
       → Shown (leadAfter h input leads) ticks
-      → Shown leads (record { input = input; output = shownBytes h input (leadAfter h input leads) } ∷ ticks)
+      → Shown leads (record { input = input; output = outputBytes h input (leadAfter h input leads) } ∷ ticks)
   shown-more leads input ticks rest zero k x y = shown-command h input (leadAfter h input leads) k y
   shown-more leads input ticks rest (suc t) k x y =
       rest t k (omega arith) y ∙ ap (λ (l : ℕ → Lead). l k .command) (sym (since-later leads _ ticks (suc t)))

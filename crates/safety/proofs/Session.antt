@@ -20,7 +20,7 @@ use Rattle.lead_records.specs.Outputs.{controls, testVolts, flagsOf, remainingO
 use Rattle.lead_records.specs.States.{decode, encode, goodState}
 use Rattle.post.specs.Parts.{joined, every}
 use Rattle.post.specs.Heads.{headOf, headBytes}
-use Rattle.post.specs.Rules.{decidedAt, levelAfter, leadAfter, postBytes, shownBytes}
+use Rattle.post.specs.Rules.{decidedAt, levelAfter, leadAfter, postBytes, outputBytes}
 use Rattle.post.specs.Refusals.{headRefusal, setupRefusal, goodPost, inputRefusal, tickRefusal}
 use Rattle.post.specs.Calls.{setupOf, leadsOf, tickOf}
 use Rattle.safety.specs.Lists.{ticksOf}
@@ -51,5 +51,5 @@ pub session-shows :
     ∷ (1 ∷ 0 ∷ 0 ∷ 6 ∷ 0 ∷ 7 ∷ [])
     ∷ []
     )
-unfolding session ticksOf setupOf tickOf leadsOf ofBits ofInt le lt eq mul sub least inRange connectorVolts inSteps allowedResistance isFrame newestRecord newestBattery newestTime newestStatus signalsOf chargingTicks remainingTime offerBytes flagsByte reportBytes given levelOf hearBattery hearTime hearStatus silenceAfter hearCar hear viewOf questions ask moves mayMove nextPhase reasonAfter ageAfter goOn advance decide wanted wantedWatts commanded goodThreshold goodLead inputOf goodInput controls testVolts flagsOf remainingOf reportOf outputs.shownBytes outputOf decode encode goodState joined every headOf headBytes decidedAt levelAfter leadAfter postBytes shownBytes headRefusal setupRefusal goodPost inputRefusal tickRefusal
+unfolding session ticksOf setupOf tickOf leadsOf ofBits ofInt le lt eq mul sub least inRange connectorVolts inSteps allowedResistance isFrame newestRecord newestBattery newestTime newestStatus signalsOf chargingTicks remainingTime offerBytes flagsByte reportBytes given levelOf hearBattery hearTime hearStatus silenceAfter hearCar hear viewOf questions ask moves mayMove nextPhase reasonAfter ageAfter goOn advance decide wanted wantedWatts commanded goodThreshold goodLead inputOf goodInput controls testVolts flagsOf remainingOf reportOf outputs.shownBytes outputOf decode encode goodState joined every headOf headBytes decidedAt levelAfter leadAfter postBytes outputBytes headRefusal setupRefusal goodPost inputRefusal tickRefusal
 session-shows = refl

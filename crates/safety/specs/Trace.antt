@@ -8,7 +8,7 @@ use lib.ListN.{length}
 use Rattle.lead.specs.Hearing.{fresh}
 use Rattle.lead.specs.declared.state.Lead.{Lead}
 use Rattle.post.specs.Heads.{headFrom, headOf}
-use Rattle.post.specs.Rules.{leadAfter, postBytes, shownBytes}
+use Rattle.post.specs.Rules.{leadAfter, postBytes, outputBytes}
 use Rattle.post.specs.Refusals.{setupRefusal, goodPost, inputRefusal}
 use Rattle.post.specs.Calls.{leadsOf}
 use Rattle.post.specs.declared.head.Head.{Head}
@@ -44,7 +44,7 @@ ruled kept (setup leads volts amperes resistance buffer) =
 ruled (post h leads) (tick input output) =
     let refusal : ℕ = inputRefusal (h .leads) input (length output) in
     cond (eqb refusal 0)
-    (record { number = 0; kept = post h (leadAfter h input leads); lent = shownBytes h input (leadAfter h input leads) })
+    (record { number = 0; kept = post h (leadAfter h input leads); lent = outputBytes h input (leadAfter h input leads) })
     (record { number = refusal; kept = post h leads; lent = output })
 ruled (unusable bytes) (tick input output) = record { number = 6; kept = unusable bytes; lent = output }
 
