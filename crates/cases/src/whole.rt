@@ -1,5 +1,8 @@
 // Document 01's whole case, through setup and tick: what its bench program prints for it.
 use super::hex;
+use lead_records::InputRecord;
+use lead_records::OutputRecord;
+use lead_records::StateRecord;
 use libc::STDOUT_FILENO;
 use post::setup;
 use post::tick;
@@ -13,13 +16,13 @@ const RATED_AMPERES: u32 = 125;
 
 const RESISTANCE: u32 = 0;
 
-const STATE: usize = 40;
+const STATE: usize = 8 + StateRecord::SIZE;
 
-const INPUT: usize = 108;
+const INPUT: usize = CONTACTS + InputRecord::SIZE;
 
-const OUTPUT: usize = 24;
+const OUTPUT: usize = OutputRecord::SIZE;
 
-// Where the contacts stand in the input, and plug closed with start pressed.
+// Where the contacts stand in the input, behind the power limit, and plug closed with start pressed.
 const CONTACTS: usize = 4;
 
 const PLUG_AND_START: u8 = 33;

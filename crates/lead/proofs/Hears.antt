@@ -1,4 +1,4 @@
--- What hearing does to a lead: to its memory of the car by phase, and nothing to the rest. Assumes nothing.
+-- What hearing does to a lead's memory of the car's H'102, in phases 1 to 8. Assumes nothing.
 use mathlib.Core.Bool.{true}
 use mathlib.Core.Path.{_≡_, refl}
 use Prim.Native.Nat.{ℕ, _+_, min}
@@ -11,21 +11,8 @@ use Rattle.lead.specs.declared.state.Lead.{Lead}
 use Rattle.lead.specs.declared.state.KnownStatus.{KnownStatus}
 use Rattle.lead.specs.declared.state.Input.{Input}
 use Rattle.readings.proofs.Tests.{is-true}
-use Rattle.lead.proofs.Bools.{is-false}
 
 module _ (i : Input) (s : Lead) where
-  pub hear-stage : hear i s .stage ≡ s .stage
-  unfolding hear
-  hear-stage = refl
-
-  pub hear-command : hear i s .command ≡ s .command
-  unfolding hear
-  hear-command = refl
-
-  pub hear-threshold : hear i s .threshold ≡ s .threshold
-  unfolding hear
-  hear-threshold = refl
-
   -- in phases 1 to 8
   module _ (listening : T (between 1 8 (s .stage .phase))) where
     pub hear-status : hear i s .car .status ≡ hearStatus (i .status) (s .car .status)
@@ -36,12 +23,7 @@ module _ (i : Input) (s : Lead) where
     unfolding hear hearCar
     hear-silence = rw (is-true (between 1 8 (s .stage .phase)) listening)
 
-  -- outside 1 to 8 nothing is heard
-  pub hear-nothing : (T (between 1 8 (s .stage .phase)) → ⊥) → hear i s ≡ s
-  unfolding hear hearCar
-  hear-nothing n = rw (is-false (between 1 8 (s .stage .phase)) n)
-
-module _ (known : KnownStatus) (silence : ℕ) where
+module _ (known : KnownStatus) where
   pub status-heard : (f : VehicleStatus) → hearStatus (Heard f) known ≡ record { seen = true; value = f }
   unfolding hearStatus
   status-heard f = refl
@@ -50,6 +32,7 @@ module _ (known : KnownStatus) (silence : ℕ) where
   unfolding hearStatus
   status-absent = refl
 
+module _ (silence : ℕ) where
   pub silence-heard : (f : VehicleStatus) → silenceAfter (Heard f) silence ≡ 0
   unfolding silenceAfter
   silence-heard f = refl

@@ -4,7 +4,7 @@ use mathlib.Core.Logic.{_⊎_, inl, inr}
 use mathlib.Core.Path.{_≡_, ap, _∙_}
 use Prim.Native.Nat.{ℕ, _+_, _-_, _≤_, _<_, min}
 use native.Mathlib.Omega.{arith}
-use lib.Dec.{T, leb, ltb, eqb, leb→le, ltb→lt, eqb→eq}
+use lib.Dec.{T, eqb, leb→le, ltb→lt, eqb→eq}
 use lib.Ieee.Fits.{and-i, and-l, and-r}
 use borrow.Author.Tests.{eq-eqb}
 use Rattle.frames.specs.Heard.{signalsOf}
@@ -84,7 +84,7 @@ module _ (c : Ratings) (i : Input) (s : Lead) (p≤ : s .stage .phase ≤ 10) wh
           mp (eqb p 2 && between 3 7 q) (eqb q 3 && m) (phases.from-2 p p≤ v m) (and-i (eqb p 2) (between 3 7 q) (holds (eq-eqb p 2 e)) w) in
           move-met c i s (and-r (eqb q 3) m moved) .out-of-2 e
 
-  -- a tick that ends in 3 to 7 and began in 2 moves to 3; one that ends in 4 to 7 began in 3 to 7, and moves to 4 where it began in 3
+  -- a tick that ends in 3 to 7 and began in 2 moves to 3; one that ends in 4 to 7 and began in 3 moves to 4
   pub out-of-2 : T (between 3 7 q) → p ≡ 2 → q ≡ 3
   out-of-2 w e =
       eqb→eq q 3
@@ -93,9 +93,6 @@ module _ (c : Ratings) (i : Input) (s : Lead) (p≤ : s .stage .phase ≤ 10) wh
 
   past-3 : T (between 4 7 q) → T (between 3 7 p && imp (eqb p 3) (eqb q 4))
   past-3 w = mp (between 4 7 q) (between 3 7 p && imp (eqb p 3) (eqb q 4)) (phases.into-4-7 p p≤ v m) w
-
-  pub began-3-7 : T (between 4 7 q) → T (between 3 7 p)
-  began-3-7 w = and-l (between 3 7 p) (imp (eqb p 3) (eqb q 4)) (past-3 w)
 
   pub out-of-3 : T (between 4 7 q) → p ≡ 3 → q ≡ 4
   out-of-3 w e = eqb→eq q 4 (mp (eqb p 3) (eqb q 4) (and-r (between 3 7 p) (imp (eqb p 3) (eqb q 4)) (past-3 w)) (holds (eq-eqb p 3 e)))

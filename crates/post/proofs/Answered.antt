@@ -5,24 +5,20 @@ use Prim.Native.Nat.{ℕ}
 use lib.ListN.{length}
 use borrow.Author.Tests.{ne-eqb}
 use Rattle.lead.specs.Hearing.{fresh}
-use Rattle.post.specs.Heads.{headFrom}
 use Rattle.post.specs.Rules.{postBytes}
 use Rattle.post.specs.Refusals.{setupRefusal, tickRefusal}
 use Rattle.post.specs.Calls.{SetUp, setupOf, Ticked, tickOf, stateAfter, outputAfter}
+use Rattle.post.specs.declared.head.Head.{Head}
 
-module _ (leads volts amperes resistance : ℕ) (state : List ℕ) {r : ℕ} (e : r ≡ setupRefusal leads volts amperes resistance (length state))
-  where
-    pub setup-done :
-        {after : List ℕ}
-        → r ≡ 0
-        → after ≡ postBytes (headFrom leads volts amperes resistance) (λ k. fresh)
-        → _≡_ {A = SetUp} (record { number = r; state = after }) (setupOf leads volts amperes resistance state)
-    unfolding setupOf
-    setup-done z a = rw (← e, z, a)
+module _ (h : Head) (state : List ℕ) {r : ℕ} (e : r ≡ setupRefusal h (length state)) where
+  pub setup-done :
+      {after : List ℕ} → r ≡ 0 → after ≡ postBytes h (λ k. fresh) → _≡_ {A = SetUp} (record { number = r; state = after }) (setupOf h state)
+  unfolding setupOf
+  setup-done z a = rw (← e, z, a)
 
-    pub setup-refused : (r ≡ 0 → ⊥) → _≡_ {A = SetUp} (record { number = r; state = state }) (setupOf leads volts amperes resistance state)
-    unfolding setupOf
-    setup-refused n = rw (← e, ne-eqb _ _ n)
+  pub setup-refused : (r ≡ 0 → ⊥) → _≡_ {A = SetUp} (record { number = r; state = state }) (setupOf h state)
+  unfolding setupOf
+  setup-refused n = rw (← e, ne-eqb _ _ n)
 
 module _ (state input output : List ℕ) {r : ℕ} (e : r ≡ tickRefusal state input (length output)) where
   pub tick-done :

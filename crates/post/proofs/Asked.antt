@@ -12,11 +12,10 @@ use Rattle.readings.specs.Readings.{allowedResistance}
 use Rattle.readings.proofs.Tests.{holds, is-true}
 use Rattle.lead.specs.Names.{between}
 use Rattle.lead.proofs.Bools.{between-lo, between-hi}
-use Rattle.lead_records.specs.States.{stateSize, goodState}
+use Rattle.lead_records.specs.States.{goodState}
 use Rattle.lead_records.specs.Inputs.{goodInput}
-use Rattle.post.specs.Parts.{part, every}
-use Rattle.post.specs.Heads.{headSize, stateLength, inputLength, outputLength, headFrom, headOf}
-use Rattle.post.specs.Rules.{inputPart}
+use Rattle.post.specs.Parts.{every}
+use Rattle.post.specs.Heads.{headSize, stateLength, inputLength, outputLength, headOf, statePart, inputPart}
 use Rattle.post.specs.Refusals.{unless, firstOf, headRefusal, setupRefusal, goodHead, goodPost, inputRefusal, tickRefusal}
 use Rattle.post.specs.declared.head.Head.{Head}
 
@@ -46,64 +45,52 @@ pub is-met : (met : Bool) (n : ℕ) → unless met (suc n) ≡ 0 → T met
 is-met true n e = tt
 is-met false n e = absurd (omega arith)
 
--- setup's questions 1 to 4 got a yes
-pub record HeadTaken (leads volts amperes resistance : ℕ) : Type 0 where
-  pub some-leads : 1 ≤ leads
-  pub few-leads : leads ≤ 4
-  pub volts-least : 50 ≤ volts
-  pub volts-most : volts ≤ 500
-  pub amperes-least : 1 ≤ amperes
-  pub amperes-most : amperes ≤ 200
-  pub allowed : allowedResistance resistance ≡ true
+-- setup's questions 1 to 4 got a yes: what those above need of the answers
+pub record Taken (h : Head) : Type 0 where
+  pub few-leads : h .leads ≤ 4
+  pub volts-least : 50 ≤ h .ratings .volts
+  pub volts-most : h .ratings .volts ≤ 500
+  pub amperes-most : h .ratings .amperes ≤ 200
+  pub allowed : allowedResistance (h .ratings .resistance) ≡ true
 
-pub head-taken : (leads volts amperes resistance : ℕ) → headRefusal leads volts amperes resistance ≡ 0 → HeadTaken leads volts amperes
-    resistance
+pub head-taken : (h : Head) → headRefusal h ≡ 0 → Taken h
 unfolding headRefusal
-head-taken leads volts amperes resistance e =
-    let d = unless (allowedResistance resistance) 4 ∷ [] in
-    let c = unless (between 1 200 amperes) 3 ∷ d in
-    let b = unless (between 50 500 volts) 2 ∷ c in
-    let one = none-refused (unless (between 1 4 leads) 1) b e in
-    let two = none-refused (unless (between 50 500 volts) 2) c (one .1) in
-    let three = none-refused (unless (between 1 200 amperes) 3) d (two .1) in
-    let four = none-refused (unless (allowedResistance resistance) 4) [] (three .1) in
-    let leads-fit = is-met (between 1 4 leads) 0 (one .0) in
-    let volts-fit = is-met (between 50 500 volts) 1 (two .0) in
-    let amperes-fit = is-met (between 1 200 amperes) 2 (three .0) in
+head-taken h e =
+    let leads = between 1 4 (h .leads) in
+    let volts = between 50 500 (h .ratings .volts) in
+    let amperes = between 1 200 (h .ratings .amperes) in
+    let resistance = allowedResistance (h .ratings .resistance) in
+    let one = none-refused (unless leads 1) (unless volts 2 ∷ unless amperes 3 ∷ unless resistance 4 ∷ []) e in
+    let two = none-refused (unless volts 2) (unless amperes 3 ∷ unless resistance 4 ∷ []) (one .1) in
+    let three = none-refused (unless amperes 3) (unless resistance 4 ∷ []) (two .1) in
+    let four = none-refused (unless resistance 4) [] (three .1) in
     record {
-      some-leads = between-lo 1 4 leads leads-fit;
-      few-leads = between-hi 1 4 leads leads-fit;
-      volts-least = between-lo 50 500 volts volts-fit;
-      volts-most = between-hi 50 500 volts volts-fit;
-      amperes-least = between-lo 1 200 amperes amperes-fit;
-      amperes-most = between-hi 1 200 amperes amperes-fit;
-      allowed = is-true (allowedResistance resistance) (is-met (allowedResistance resistance) 3 (four .0));
+      few-leads = between-hi 1 4 (h .leads) (is-met leads 0 (one .0));
+      volts-least = between-lo 50 500 (h .ratings .volts) (is-met volts 1 (two .0));
+      volts-most = between-hi 50 500 (h .ratings .volts) (is-met volts 1 (two .0));
+      amperes-most = between-hi 1 200 (h .ratings .amperes) (is-met amperes 2 (three .0));
+      allowed = is-true resistance (is-met resistance 3 (four .0));
     }
 
-abbrev pub Taken : Head → Type 0
-Taken h = HeadTaken (h .leads) (h .ratings .volts) (h .ratings .amperes) (h .ratings .resistance)
-
 pub good-taken : (h : Head) → T (goodHead h) → Taken h
-good-taken h t =
-    head-taken (h .leads) (h .ratings .volts) (h .ratings .amperes) (h .ratings .resistance)
-    (eqb→eq (headRefusal (h .leads) (h .ratings .volts) (h .ratings .amperes) (h .ratings .resistance)) 0 t)
+good-taken h t = head-taken h (eqb→eq (headRefusal h) 0 t)
 
 -- a setup that nothing refuses; r is the number that the code worked out
-module _ (leads volts amperes resistance room : ℕ) {r : ℕ} (e : r ≡ setupRefusal leads volts amperes resistance room) (none : r ≡ 0) where
-  parted : (headRefusal leads volts amperes resistance ≡ 0) × (firstOf (unless (eqb room (stateLength leads)) 5 ∷ []) ≡ 0)
+module _ (h : Head) (room : ℕ) {r : ℕ} (e : r ≡ setupRefusal h room) (none : r ≡ 0) where
+  parted : (headRefusal h ≡ 0) × (firstOf (unless (eqb room (stateLength (h .leads))) 5 ∷ []) ≡ 0)
   unfolding setupRefusal
-  parted = none-refused (headRefusal leads volts amperes resistance) (unless (eqb room (stateLength leads)) 5 ∷ []) (sym e ∙ none)
+  parted = none-refused (headRefusal h) (unless (eqb room (stateLength (h .leads))) 5 ∷ []) (sym e ∙ none)
 
-  pub setup-good-head : T (goodHead (headFrom leads volts amperes resistance))
+  pub setup-good-head : T (goodHead h)
   setup-good-head = holds (eq-eqb _ _ (parted .0))
 
-  pub setup-head : HeadTaken leads volts amperes resistance
-  setup-head = head-taken leads volts amperes resistance (parted .0)
+  pub setup-head : Taken h
+  setup-head = head-taken h (parted .0)
 
-  pub setup-room : room ≡ stateLength leads
+  pub setup-room : room ≡ stateLength (h .leads)
   setup-room =
-      let five = none-refused (unless (eqb room (stateLength leads)) 5) [] (parted .1) in
-      eqb→eq room (stateLength leads) (is-met (eqb room (stateLength leads)) 4 (five .0))
+      let five = none-refused (unless (eqb room (stateLength (h .leads))) 5) [] (parted .1) in
+      eqb→eq room (stateLength (h .leads)) (is-met (eqb room (stateLength (h .leads))) 4 (five .0))
 
 -- the questions of a good state, as the code asks them one after the other; h is the head that it read
 module _ (state : List ℕ) where
@@ -115,7 +102,7 @@ module _ (state : List ℕ) where
       rw other (go (goodHead (headOf state)))
     where
       go : (b : Bool) → false ≡ (b && false && every (headOf state .leads)
-          (λ k. goodState (headOf state .ratings) (part headSize stateSize k state)))
+          (λ k. goodState (headOf state .ratings) (statePart state k)))
       go true = refl
       go false = refl
 
@@ -130,7 +117,7 @@ module _ (state : List ℕ) where
       other-length n = rw (← e, yes-head, ne-eqb _ _ n)
 
       pub good-if-leads :
-          length state ≡ stateLength (h .leads) → every (h .leads) (λ k. goodState (h .ratings) (part headSize stateSize k state)) ≡
+          length state ≡ stateLength (h .leads) → every (h .leads) (λ k. goodState (h .ratings) (statePart state k)) ≡
           goodPost state
       unfolding goodPost
       good-if-leads long = rw (← e, yes-head, eq-eqb _ _ long)
@@ -144,7 +131,7 @@ module _ (state : List ℕ) (good : T (goodPost state)) where
   sized = eqb (length state) (stateLength (h .leads))
 
   abbrev each : Bool
-  each = every (h .leads) (λ k. goodState (h .ratings) (part headSize stateSize k state))
+  each = every (h .leads) (λ k. goodState (h .ratings) (statePart state k))
 
   head-and-size : T (goodHead h && sized)
   unfolding goodPost
@@ -190,10 +177,11 @@ pub tick-taken : {h : Head} {state input : List ℕ} {room : ℕ} → h ≡ head
 tick-taken {state = state} {input = input} {room = room} own e = rw own (taken-whole state input room e)
 
 -- a setup is refused with 1 to 5
-pub setup-not-6 : (leads volts amperes resistance room : ℕ) → setupRefusal leads volts amperes resistance room ≡ 6 → ⊥
+pub setup-not-6 : (h : Head) (room : ℕ) → setupRefusal h room ≡ 6 → ⊥
 unfolding setupRefusal headRefusal
-setup-not-6 leads volts amperes resistance room =
-    go (between 1 4 leads) (between 50 500 volts) (between 1 200 amperes) (allowedResistance resistance) (eqb room (stateLength leads))
+setup-not-6 h room =
+    go (between 1 4 (h .leads)) (between 50 500 (h .ratings .volts)) (between 1 200 (h .ratings .amperes))
+    (allowedResistance (h .ratings .resistance)) (eqb room (stateLength (h .leads)))
   where
     go : (a b c d e : Bool) → firstOf (firstOf (unless a 1 ∷ unless b 2 ∷ unless c 3 ∷ unless d 4 ∷ []) ∷ unless e 5 ∷ []) ≡ 6 → ⊥
     go false b c d e six = omega arith

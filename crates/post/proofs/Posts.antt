@@ -18,8 +18,8 @@ use Rattle.lead.specs.Hearing.{fresh}
 use Rattle.lead.proofs.Goodness.{fresh-good}
 use Rattle.lead_records.specs.States.{stateSize, decode, encode, goodState}
 use Rattle.lead_records.proofs.RoundTrip.{decode-encode, encode-decode, encode-length, encode-good, good-clear, good-lead}
-use Rattle.post.specs.Parts.{part, joined}
-use Rattle.post.specs.Heads.{headSize, stateLength, headOf, headBytes}
+use Rattle.post.specs.Parts.{joined}
+use Rattle.post.specs.Heads.{headSize, stateLength, headOf, headBytes, statePart}
 use Rattle.post.specs.Rules.{postBytes}
 use Rattle.post.specs.Refusals.{goodHead, goodPost}
 use Rattle.post.specs.Calls.{leadsOf}
@@ -55,7 +55,7 @@ module _ (h : Head) (leads : ℕ → Lead) where
         (λ k. encode-length (leads k)) (h .leads),
   )
 
-  part-back : (k : ℕ) → k < h .leads → part headSize stateSize k bytes ≡ encode (leads k)
+  part-back : (k : ℕ) → k < h .leads → statePart bytes k ≡ encode (leads k)
   unfolding postBytes
   part-back k below =
       part-joined stateSize (λ j. encode (leads j)) (λ j. encode-length (leads j)) (headBytes h) headSize (h .leads) k (head-length h) below
@@ -68,7 +68,7 @@ module _ (h : Head) (leads : ℕ → Lead) where
   unfolding goodPost
   sound-good s =
       rw (post-head-back, eq-eqb _ _ post-sized, is-true (goodHead h) (s .head))
-      (every-of (h .leads) (λ k. goodState (h .ratings) (part headSize stateSize k bytes))
+      (every-of (h .leads) (λ k. goodState (h .ratings) (statePart bytes k))
       (λ k below. rw (part-back k below, encode-good (leads k) (h .ratings)) (s .each k below)))
 
 pub fresh-sound : (h : Head) → T (goodHead h) → Sound h (λ k. fresh)
@@ -86,7 +86,7 @@ module _ (state : List ℕ) (good : T (goodPost state)) where
   read = headOf state
 
   abbrev record-at : ℕ → List ℕ
-  record-at k = part headSize stateSize k state
+  record-at k = statePart state k
 
   record-good : (k : ℕ) → k < read .leads → T (goodState (read .ratings) (record-at k))
   record-good = every-at (read .leads) (λ k. goodState (read .ratings) (record-at k)) (post-leads state good)

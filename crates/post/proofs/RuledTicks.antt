@@ -16,8 +16,8 @@ use Rattle.lead.proofs.Goodness.{good-stays}
 use Rattle.lead_records.specs.States.{encode}
 use Rattle.lead_records.specs.Outputs.{outputSize}
 use Rattle.lead_records.proofs.Shown.{output-length, output-command}
-use Rattle.post.specs.Parts.{part, joined}
-use Rattle.post.specs.Heads.{headSize, headBytes}
+use Rattle.post.specs.Parts.{joined}
+use Rattle.post.specs.Heads.{headSize, headBytes, outputPart}
 use Rattle.post.specs.Rules.{limitOf, inputAt, decidedAt, wantAfter, levelAfter, leadAfter, shownAt, postBytes, outputBytes}
 use Rattle.post.specs.Refusals.{goodPost, inputRefusal, tickRefusal}
 use Rattle.post.specs.Calls.{leadsOf, leadsAfter, Ticked, tickOf, stateAfter, outputAfter}
@@ -105,7 +105,7 @@ module _ (h : Head) (input : List ℕ) (leads : ℕ → Lead) where
 
 -- byte 2 of what lead k shows is its command
 pub shown-command :
-    (h : Head) (input : List ℕ) (leads : ℕ → Lead) (k : ℕ) → k < h .leads → byteAt (part 0 outputSize k (outputBytes h input leads)) 2 ≡
+    (h : Head) (input : List ℕ) (leads : ℕ → Lead) (k : ℕ) → k < h .leads → byteAt (outputPart (outputBytes h input leads) k) 2 ≡
     leads k .command
 unfolding outputBytes
 shown-command h input leads k below =

@@ -6,11 +6,12 @@ use lib.Dec.{eqb}
 use lib.ListN.{length, take}
 use Rattle.lead.specs.Hearing.{fresh}
 use Rattle.lead.specs.declared.state.Lead.{Lead}
-use Rattle.lead_records.specs.States.{stateSize, decode, encode}
-use Rattle.post.specs.Parts.{part, joined}
-use Rattle.post.specs.Heads.{headSize, headFrom, headOf}
+use Rattle.lead_records.specs.States.{decode, encode}
+use Rattle.post.specs.Parts.{joined}
+use Rattle.post.specs.Heads.{headSize, headOf, statePart}
 use Rattle.post.specs.Rules.{leadAfter, postBytes, outputBytes}
 use Rattle.post.specs.Refusals.{setupRefusal, tickRefusal}
+use Rattle.post.specs.declared.head.Head.{Head}
 
 -- what setup leaves of its state
 pub record SetUp : Type 0 where
@@ -19,16 +20,14 @@ pub record SetUp : Type 0 where
 
 -- "Setup writes a fresh state: the head as given, the resistance's bits kept even for minus zero, phase 0, other lead bytes 0."
 -- A refusal changes no byte.
-unfoldable pub setupOf : ℕ → ℕ → ℕ → ℕ → List ℕ → SetUp
-setupOf leads volts amperes resistance state =
-    let refusal : ℕ = setupRefusal leads volts amperes resistance (length state) in
-    cond (eqb refusal 0)
-    (record { number = 0; state = postBytes (headFrom leads volts amperes resistance) (λ k. fresh) })
-    (record { number = refusal; state = state })
+unfoldable pub setupOf : Head → List ℕ → SetUp
+setupOf h state =
+    let refusal : ℕ = setupRefusal h (length state) in
+    cond (eqb refusal 0) (record { number = 0; state = postBytes h (λ k. fresh) }) (record { number = refusal; state = state })
 
 -- lead k, read from the state
 unfoldable pub leadsOf : List ℕ → ℕ → Lead
-leadsOf state k = decode (part headSize stateSize k state)
+leadsOf state k = decode (statePart state k)
 
 -- the post's leads after the tick, and the bytes of its state and output: the head stays as it is, each lead's record is written
 abbrev pub leadsAfter : List ℕ → List ℕ → ℕ → Lead

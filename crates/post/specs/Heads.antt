@@ -1,10 +1,11 @@
--- Document 01, 'The post's two calls': the head of the state, and the lengths of state, input and output. Definitions only.
+-- Document 01, 'The post's two calls': the head of the state, and how state, input and output are cut into leads. Definitions only.
 use mathlib.Core.List.{List, [], _∷_, _++_}
 use Prim.Native.Nat.{ℕ, _+_, _*_}
 use Rattle.little_endian.specs.Numbers.{byteAt, u16At, u32At, u16Bytes, u32Bytes}
 use Rattle.lead_records.specs.States.{stateSize}
 use Rattle.lead_records.specs.Inputs.{inputSize}
 use Rattle.lead_records.specs.Outputs.{outputSize}
+use Rattle.post.specs.Parts.{part}
 use Rattle.post.specs.declared.head.Head.{Head}
 
 -- "State: 8 bytes (…), then 32 a lead"
@@ -23,6 +24,16 @@ inputLength leads = limitSize + inputSize * leads
 
 abbrev pub outputLength : ℕ → ℕ
 outputLength leads = outputSize * leads
+
+-- lead k's record in each of them
+abbrev pub statePart : List ℕ → ℕ → List ℕ
+statePart state k = part headSize stateSize k state
+
+abbrev pub inputPart : List ℕ → ℕ → List ℕ
+inputPart input k = part limitSize inputSize k input
+
+abbrev pub outputPart : List ℕ → ℕ → List ℕ
+outputPart output k = part 0 outputSize k output
 
 -- the numbers that setup is given, in its order
 abbrev pub headFrom : ℕ → ℕ → ℕ → ℕ → Head

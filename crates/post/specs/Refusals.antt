@@ -6,11 +6,10 @@ use lib.Dec.{eqb}
 use lib.ListN.{length}
 use Rattle.readings.specs.Readings.{allowedResistance}
 use Rattle.lead.specs.Names.{between}
-use Rattle.lead_records.specs.States.{stateSize, goodState}
+use Rattle.lead_records.specs.States.{goodState}
 use Rattle.lead_records.specs.Inputs.{goodInput}
-use Rattle.post.specs.Parts.{part, every}
-use Rattle.post.specs.Heads.{headSize, stateLength, inputLength, outputLength, headOf}
-use Rattle.post.specs.Rules.{inputPart}
+use Rattle.post.specs.Parts.{every}
+use Rattle.post.specs.Heads.{stateLength, inputLength, outputLength, headOf, statePart, inputPart}
 use Rattle.post.specs.declared.head.Head.{Head}
 
 -- a question's number where it gets a no, else 0
@@ -24,30 +23,29 @@ firstOf (zero ∷ rest) = firstOf rest
 firstOf (suc n ∷ rest) = suc n
 
 -- "1 to 4 leads? (1) Rated volts 50–500? (2) Rated amperes 1–200? (3) Resistance 0 to 1, so no NaN? (4)"
-unfoldable pub headRefusal : ℕ → ℕ → ℕ → ℕ → ℕ
-headRefusal leads volts amperes resistance =
+unfoldable pub headRefusal : Head → ℕ
+headRefusal h =
     firstOf
-    (unless (between 1 4 leads) 1
-    ∷ unless (between 50 500 volts) 2
-    ∷ unless (between 1 200 amperes) 3
-    ∷ unless (allowedResistance resistance) 4
+    (unless (between 1 4 (h .leads)) 1
+    ∷ unless (between 50 500 (h .ratings .volts)) 2
+    ∷ unless (between 1 200 (h .ratings .amperes)) 3
+    ∷ unless (allowedResistance (h .ratings .resistance)) 4
     ∷ [])
 
--- "State exactly 8 + 32 × leads bytes? (5)"
-unfoldable pub setupRefusal : ℕ → ℕ → ℕ → ℕ → ℕ → ℕ
-setupRefusal leads volts amperes resistance length =
-    firstOf (headRefusal leads volts amperes resistance ∷ unless (eqb length (stateLength leads)) 5 ∷ [])
+-- "State exactly 8 + 32 × leads bytes? (5)" `room` is the state's length.
+unfoldable pub setupRefusal : Head → ℕ → ℕ
+setupRefusal h room = firstOf (headRefusal h ∷ unless (eqb room (stateLength (h .leads))) 5 ∷ [])
 
 -- "head as setup takes it"
 abbrev pub goodHead : Head → Bool
-goodHead h = eqb (headRefusal (h .leads) (h .ratings .volts) (h .ratings .amperes) (h .ratings .resistance)) 0
+goodHead h = eqb (headRefusal h) 0
 
 -- "state a good one: head as setup takes it, length right", and each lead's record
 unfoldable pub goodPost : List ℕ → Bool
 goodPost state =
     goodHead (headOf state)
     && eqb (length state) (stateLength (headOf state .leads))
-    && every (headOf state .leads) (λ k. goodState (headOf state .ratings) (part headSize stateSize k state))
+    && every (headOf state .leads) (λ k. goodState (headOf state .ratings) (statePart state k))
 
 -- "Input exactly 4 + 104 × leads? (7) Output exactly 24 × leads? (8) Every spare bit and byte 3 zero, counts at most 8? (9)"
 unfoldable pub inputRefusal : ℕ → List ℕ → ℕ → ℕ

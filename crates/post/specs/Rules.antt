@@ -9,19 +9,15 @@ use Rattle.lead.specs.Power.{wantedWatts, commanded}
 use Rattle.lead.specs.declared.state.Lead.{Lead}
 use Rattle.lead.specs.declared.state.Input.{Input}
 use Rattle.lead_records.specs.States.{encode}
-use Rattle.lead_records.specs.Inputs.{inputSize, inputOf}
+use Rattle.lead_records.specs.Inputs.{inputOf}
 use Rattle.lead_records.specs.Outputs.{outputOf}
-use Rattle.post.specs.Parts.{part, joined}
-use Rattle.post.specs.Heads.{limitSize, headBytes}
+use Rattle.post.specs.Parts.{joined}
+use Rattle.post.specs.Heads.{headBytes, inputPart}
 use Rattle.post.specs.declared.head.Head.{Head}
 
 -- the watts that the tick may give out (document 01: allowance)
 abbrev pub limitOf : List ℕ → ℕ
 limitOf input = u32At input 0
-
--- lead k's 104 bytes of the input
-abbrev pub inputPart : List ℕ → ℕ → List ℕ
-inputPart input k = part limitSize inputSize k input
 
 abbrev pub inputAt : Head → List ℕ → ℕ → Input
 inputAt h input k = inputOf (inputPart input k) (h .ratings .resistance)

@@ -1,4 +1,4 @@
--- One lead's part of a tick, as the code holds it until it is written. Definitions only.
+-- One lead's part of a tick, as the code holds it until it is written. The rules (`setupOf`, `tickOf`) do not rest on it. Definitions only.
 use mathlib.Core.Bool.{false, cond}
 use mathlib.Core.List.{List}
 use Prim.Native.Nat.{ℕ}

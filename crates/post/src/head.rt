@@ -1,5 +1,5 @@
 // The head of a post's state, and what setup asks of it.
-use super::numbers::Refusal;
+use super::names::Refusal;
 use lead::Ratings;
 use little_endian::high_byte;
 use little_endian::high_half;
@@ -12,7 +12,7 @@ ghost use mathlib.Core.Path.{_≡_};
 ghost use Prim.Native.Nat.{_≤_};
 ghost use lib.ListN.{length};
 ghost use Rattle.lead.specs.Names.{between};
-ghost use Rattle.post.specs.Heads.{headSize, headOf, headBytes};
+ghost use Rattle.post.specs.Heads.{headSize, headFrom, headOf, headBytes};
 ghost use Rattle.post.specs.Refusals.{headRefusal, goodHead};
 
 // How many leads there are, and what setup fixed for all of them.
@@ -86,7 +86,7 @@ fn is_between(first: u32, last: u32, number: u32) -> bool
 
 // The number of the first of setup's questions 1 to 4 that gets a no, 0 where none does.
 pub(crate) fn head_refusal(leads: u32, volts: u32, amperes: u32, resistance: u32) -> u32
-    ensures { λ r. ⌜ r ≡ headRefusal leads volts amperes resistance ⌝ }
+    ensures { λ r. ⌜ r ≡ headRefusal (headFrom leads volts amperes resistance) ⌝ }
 {
     if !is_between(1, 4, leads) {
         return Refusal::LEADS;

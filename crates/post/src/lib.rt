@@ -2,7 +2,7 @@
 // Rests on the promises of `lead`, `lead_records`, `sharing`, `readings`, `little_endian` and `bytes`.
 mod head;
 mod lengths;
-mod numbers;
+mod names;
 mod refusals;
 mod ticks;
 mod turns;
@@ -10,12 +10,13 @@ mod written;
 
 use head::Head;
 use lead::Ratings;
-use numbers::Refusal;
+use names::Refusal;
 use refusals::setup_refusal;
 use refusals::tick_refusal;
 use ticks::carry_out;
 use written::write_fresh;
 ghost use mathlib.Core.Path.{_≡_};
+ghost use Rattle.post.specs.Heads.{headFrom};
 ghost use Rattle.post.specs.Calls.{SetUp, setupOf, Ticked, tickOf};
 
 // Writes a fresh state. The resistance is the cable's, as its float's bits. Returns 0, or the number of the first question that gets a
@@ -29,7 +30,7 @@ pub extern "C" fn setup(
     state: &mut [u8],
 ) -> u32
     ensures { λ r. ⌜ _≡_ {A = SetUp} (record { number = r; state = now (state .exit) })
-        (setupOf leads «rated_volts» «rated_amperes» resistance (now (state .entry))) ⌝ }
+        (setupOf (headFrom leads «rated_volts» «rated_amperes» resistance) (now (state .entry))) ⌝ }
 {
     let room = state.len();
     let refusal = setup_refusal(leads, rated_volts, rated_amperes, resistance, room);

@@ -5,16 +5,15 @@ use super::lengths::LIMIT_SIZE;
 use super::lengths::input_length;
 use super::lengths::output_length;
 use super::lengths::state_length;
-use super::numbers::Refusal;
+use super::names::Refusal;
 use lead_records::InputRecord;
 use lead_records::StateRecord;
 ghost use mathlib.Core.Path.{_≡_};
 ghost use lib.ListN.{length};
-ghost use Rattle.lead_records.specs.States.{stateSize, goodState};
+ghost use Rattle.lead_records.specs.States.{goodState};
 ghost use Rattle.lead_records.specs.Inputs.{goodInput};
-ghost use Rattle.post.specs.Parts.{part, every};
-ghost use Rattle.post.specs.Heads.{headSize, stateLength, inputLength};
-ghost use Rattle.post.specs.Rules.{inputPart};
+ghost use Rattle.post.specs.Parts.{every};
+ghost use Rattle.post.specs.Heads.{stateLength, inputLength, headFrom, statePart, inputPart};
 ghost use Rattle.post.specs.Refusals.{setupRefusal, goodPost, inputRefusal, tickRefusal};
 
 // The room is the state's length.
@@ -25,7 +24,7 @@ pub(crate) fn setup_refusal(
     resistance: u32,
     room: usize,
 ) -> u32
-    ensures { λ r. ⌜ r ≡ setupRefusal leads volts amperes resistance room ⌝ }
+    ensures { λ r. ⌜ r ≡ setupRefusal (headFrom leads volts amperes resistance) room ⌝ }
 {
     let refusal = head_refusal(leads, volts, amperes, resistance);
     if refusal != Refusal::NONE {
@@ -39,7 +38,7 @@ pub(crate) fn setup_refusal(
 
 fn are_good_states(head: Head, state: &[u8]) -> bool
     requires { ⌜ length (now state) ≡ stateLength (head .leads) ⌝ }
-    ensures { λ r. ⌜ r ≡ every (head .leads) (λ k. goodState (head .ratings) (part headSize stateSize k (now (state .entry)))) ⌝ }
+    ensures { λ r. ⌜ r ≡ every (head .leads) (λ k. goodState (head .ratings) (statePart (now (state .entry)) k)) ⌝ }
 {
     let leads = head.leads as usize;
     let mut i = 0;

@@ -7,7 +7,6 @@ use lib.Dec.{eqb, eqb→eq}
 use lib.ListN.{length}
 use Rattle.readings.proofs.Tests.{holds}
 use Rattle.lead.specs.declared.state.Lead.{Lead}
-use Rattle.post.specs.Heads.{headFrom}
 use Rattle.post.specs.Refusals.{setupRefusal, goodPost, inputRefusal}
 use Rattle.post.specs.Calls.{setupOf}
 use Rattle.post.specs.declared.head.Head.{Head}
@@ -27,22 +26,19 @@ pub record Follows (kept : Kept) (call : Call) : Type 0 where
   pub same : answer (keptBytes kept) call ≡ answered (ruled kept call)
   pub sound : SoundKept (ruled kept call .kept)
 
-module _ (kept : Kept) (s : SoundKept kept) (leads volts amperes resistance : ℕ) (buffer : List ℕ) where
+module _ (kept : Kept) (s : SoundKept kept) (h : Head) (buffer : List ℕ) where
   abbrev refusal : ℕ
-  refusal = setupRefusal leads volts amperes resistance (length buffer)
+  refusal = setupRefusal h (length buffer)
 
-  abbrev h : Head
-  h = headFrom leads volts amperes resistance
-
-  setup-follows : Follows kept (setup leads volts amperes resistance buffer)
+  setup-follows : Follows kept (setup h buffer)
   unfolding answer ruled setupOf
   setup-follows = go (eqb refusal 0) refl
     where
-      go : (b : Bool) → eqb refusal 0 ≡ b → Follows kept (setup leads volts amperes resistance buffer)
+      go : (b : Bool) → eqb refusal 0 ≡ b → Follows kept (setup h buffer)
       go true e =
           record {
             same = rw e;
-            sound = rw e (fresh-sound h (setup-good-head leads volts amperes resistance (length buffer) refl (eqb→eq refusal 0 (holds e))));
+            sound = rw e (fresh-sound h (setup-good-head h (length buffer) refl (eqb→eq refusal 0 (holds e))));
           }
       go false e = record { same = rw (e, e); sound = rw e s }
 
@@ -60,7 +56,7 @@ module _ (h : Head) (leads : ℕ → Lead) (s : Sound h leads) (input output : L
 
 pub follows : (kept : Kept) → SoundKept kept → (call : Call) → Follows kept call
 unfolding answer ruled
-follows kept s (setup leads volts amperes resistance buffer) = setup-follows kept s leads volts amperes resistance buffer
+follows kept s (setup h buffer) = setup-follows kept s h buffer
 follows (post h leads) s (tick input output) = tick-follows h leads s input output
 follows (unusable bytes) s (tick input output) = record { same = rw (tick-unusable bytes input output s); sound = s }
 

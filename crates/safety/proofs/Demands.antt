@@ -8,7 +8,6 @@ use borrow.Author.Tests.{eq-eqb}
 use lib.ListN.{length, getD}
 use Rattle.readings.proofs.Tests.{holds}
 use Rattle.lead.specs.Hearing.{fresh}
-use Rattle.post.specs.Heads.{headFrom}
 use Rattle.post.specs.Rules.{postBytes}
 use Rattle.post.specs.Refusals.{setupRefusal, goodPost}
 use Rattle.post.specs.Calls.{setupOf}
@@ -35,38 +34,37 @@ demand-2 state small calls = go (goodPost state) refl
     go false e = rw e (all-follow (unusable state) e calls)
 
 -- an accepted setup
-module _ (leads volts amperes resistance : ℕ) (buffer : List ℕ) (accepted : setupOf leads volts amperes resistance buffer .number ≡ 0) where
-  abbrev h : Head
-  h = headFrom leads volts amperes resistance
-
+module _ (h : Head) (buffer : List ℕ) (accepted : setupOf h buffer .number ≡ 0) where
   abbrev refusal : ℕ
-  refusal = setupRefusal leads volts amperes resistance (length buffer)
+  refusal = setupRefusal h (length buffer)
 
   -- nothing was refused, and the state is a fresh post's
-  none-refused : refusal ≡ 0
+  nothing-refused : refusal ≡ 0
   unfolding setupOf
-  none-refused = go (eqb refusal 0) refl
+  nothing-refused = go (eqb refusal 0) refl
     where
       go : (b : Bool) → eqb refusal 0 ≡ b → refusal ≡ 0
       go true e = eqb→eq refusal 0 (holds e)
       go false e = rw e at accepted
 
-  state-is : setupOf leads volts amperes resistance buffer .state ≡ postBytes h (λ k. fresh)
+  state-is : setupOf h buffer .state ≡ postBytes h (λ k. fresh)
   unfolding setupOf
-  state-is = rw (eq-eqb _ _ none-refused)
+  state-is = rw (eq-eqb _ _ nothing-refused)
 
   sound : Sound h (λ k. fresh)
-  sound = fresh-sound h (setup-good-head leads volts amperes resistance (length buffer) refl none-refused)
+  sound = fresh-sound h (setup-good-head h (length buffer) refl nothing-refused)
 
-  -- Demand 3: "This holds for every list of ticks from a fresh post, whatever the cars send and the inputs hold"
-  pub demand-3 : (calls : List Call) → Demand3 h (ticksOf (setupOf leads volts amperes resistance buffer .state) calls)
-  demand-3 calls =
-      rw state-is
-      (demand-3-of h (ticksOf (postBytes h (λ k. fresh)) calls)
-      (setup-head leads volts amperes resistance (length buffer) refl none-refused .amperes-most)
-      (shown h calls sound))
+  -- Demand 2 from an accepted setup on: the trace starts at fresh leads, and nothing is asked of any bytes.
+  pub demand-2-from-setup : (calls : List Call) → answers (setupOf h buffer .state) calls ≡ trace (post h (λ k. fresh)) calls
+  demand-2-from-setup calls = rw state-is (all-follow (post h (λ k. fresh)) sound calls)
 
   -- no tick after an accepted setup returns 6, nor does a setup
-  pub never-6 : (calls : List Call) (t : ℕ) → getD (answers (setupOf leads volts amperes resistance buffer .state) calls) t noAnswer .number
-      ≡ 6 → ⊥
-  never-6 calls t = rw (state-is, all-follow (post h (λ k. fresh)) sound calls) (trace-never-6 (post h (λ k. fresh)) tt calls t)
+  pub never-6 : (calls : List Call) (t : ℕ) → getD (answers (setupOf h buffer .state) calls) t noAnswer .number ≡ 6 → ⊥
+  never-6 calls t = rw (demand-2-from-setup calls) (trace-never-6 (post h (λ k. fresh)) tt calls t)
+
+  -- Demand 3: "This holds for every list of ticks from a fresh post, whatever the cars send and the inputs hold"
+  pub demand-3 : (calls : List Call) → Demand3 h (ticksOf (setupOf h buffer .state) calls)
+  demand-3 calls =
+      rw state-is
+      (demand-3-of h (ticksOf (postBytes h (λ k. fresh)) calls) (setup-head h (length buffer) refl nothing-refused .amperes-most)
+      (shown h calls sound))

@@ -53,18 +53,18 @@ module _ (h : Head) (ticks : List Tick) (k : ℕ) where
     hears frame e =
         record {
           newest = record { frame = frame; tick = t; sofar = omega arith; there = e; last = λ u x y. absurd (omega arith) };
-          value = rw (status-now (Heard frame) e, status-heard (before t .status) 0 frame);
-          silence = silence-now (Heard frame) e ∙ silence-heard (before t .status) (before t .silence) frame ∙ omega arith;
+          value = rw (status-now (Heard frame) e, status-heard (before t .status) frame);
+          silence = silence-now (Heard frame) e ∙ silence-heard (before t .silence) frame ∙ omega arith;
         }
 
     stays : statusAt h ticks t k ≡ Absent → heard t .status ≡ before t .status
-    stays e = status-now Absent e ∙ status-absent (before t .status) 0
+    stays e = status-now Absent e ∙ status-absent (before t .status)
 
     still-seen : T (before t .status .seen) → T (heard t .status .seen)
     still-seen s = go (statusAt h ticks t k) refl
       where
         go : (o : StatusFrame) → statusAt h ticks t k ≡ o → T (heard t .status .seen)
-        go (Heard frame) e = rw (status-now (Heard frame) e, status-heard (before t .status) 0 frame) tt
+        go (Heard frame) e = rw (status-now (Heard frame) e, status-heard (before t .status) frame) tt
         go Absent e = rw (stays e) s
 
   listens : (t : ℕ) → T (between 2 7 (phase t)) → T (between 1 8 (phase t))
@@ -105,7 +105,7 @@ module _ (h : Head) (ticks : List Tick) (k : ℕ) where
               omega (
                 arith,
                 silence-now (suc t) w Absent e,
-                silence-absent (before (suc t) .status) (before (suc t) .silence),
+                silence-absent (before (suc t) .silence),
                 ap (λ (x : Car). x .silence) kept,
                 old .silence,
                 old .newest .sofar,

@@ -31,9 +31,9 @@ either-way false x y a c = c
 numbered : (kept : Kept) → T (isPost kept) → (call : Call) → Numbered (ruled kept call)
 unfolding ruled
 numbered (unusable bytes) p call = absurd p
-numbered (post h leads) p (setup n volts amperes resistance buffer) =
-    either-way (eqb (setupRefusal n volts amperes resistance (length buffer)) 0) _ _ (record { again = tt; other = λ six. omega arith })
-    (record { again = tt; other = setup-not-6 n volts amperes resistance (length buffer) })
+numbered (post h leads) p (setup other-head buffer) =
+    either-way (eqb (setupRefusal other-head (length buffer)) 0) _ _ (record { again = tt; other = λ six. omega arith })
+    (record { again = tt; other = setup-not-6 other-head (length buffer) })
 numbered (post h leads) p (tick input output) =
     either-way (eqb (inputRefusal (h .leads) input (length output)) 0) _ _ (record { again = tt; other = λ six. omega arith })
     (record { again = tt; other = tick-not-6 (h .leads) input (length output) })

@@ -48,8 +48,7 @@ module _ (h : Head) where
   shown-since : (calls : List Call) (leads : ℕ → Lead) → Sound h leads → Shown leads (ticksOf (postBytes h leads) calls)
   unfolding ticksOf
   shown-since [] leads s = λ t k x y. absurd (omega arith)
-  shown-since (setup n volts amperes resistance buffer ∷ calls) leads s =
-      go (eqb (setupOf n volts amperes resistance buffer .number) 0) (shown-since calls leads s)
+  shown-since (setup other-head buffer ∷ calls) leads s = go (eqb (setupOf other-head buffer .number) 0) (shown-since calls leads s)
     where
       go : (b : Bool) → Shown leads (ticksOf (postBytes h leads) calls) → Shown leads (cond b [] (ticksOf (postBytes h leads) calls))
       go true rest = λ t k x y. absurd (omega arith)

@@ -8,19 +8,19 @@ use lib.ListN.{length}
 use Rattle.sharing.proofs.Sums.{sum-le}
 use Rattle.post.specs.declared.head.Head.{Head}
 use Rattle.safety.specs.Lists.{Tick}
-use Rattle.safety.specs.Demand3.{commandAt, leadsBefore, thresholdAt, earlier, Zeroed, Demand3}
+use Rattle.safety.specs.Demand3.{commandAt, leadsBefore, thresholdAt, commandBefore, Zeroed, Demand3}
 use Rattle.safety.proofs.Closed.{stayed-closed}
 use Rattle.safety.proofs.Raises.{raises-only}
 use Rattle.safety.proofs.Shares.{allowance, share, equal-part}
-use Rattle.safety.proofs.Zeros.{FallsSilent, urgent, ordinary}
+use Rattle.safety.proofs.Zeros.{FallsSilent, urgent, ordinary, stays-silent}
 
 -- of what setup accepts, only the bound on rated amperes is used
 module _
     (h : Head) (ticks : List Tick) (rated : h .ratings .amperes ≤ 200)
     (shown : (t k : ℕ) → t < length ticks → k < h .leads → commandAt h ticks t k ≡ leadsBefore h ticks (suc t) k .command) where
-  earlier-is : (t k : ℕ) → t < length ticks → k < h .leads → earlier h ticks t k ≡ leadsBefore h ticks t k .command
-  earlier-is zero k x y = refl
-  earlier-is (suc t) k x y = shown t k (omega arith) y
+  before-is : (t k : ℕ) → t < length ticks → k < h .leads → commandBefore h ticks t k ≡ leadsBefore h ticks t k .command
+  before-is zero k x y = refl
+  before-is (suc t) k x y = shown t k (omega arith) y
 
   zeroed : (t latest k : ℕ) → k < h .leads → FallsSilent h ticks k t latest → Zeroed h ticks t latest k
   zeroed t latest k y silent =
@@ -29,14 +29,13 @@ module _
         from = silent .from;
         by = silent .by;
         zeroed = λ x. rw (shown (silent .tick) k x y) (silent .zeroed);
-        stays = λ u v a z b x. rw (shown v k x y) (silent .stays u v a (sym (shown u k (omega arith) y) ∙ z) b);
       }
 
   pub demand-3-of : Demand3 h ticks
   demand-3-of =
       record {
         stayed-closed = λ t k x y c. stayed-closed h ticks k t (omega (arith, shown t k x y));
-        raises-only = λ t k x y r. rw (shown t k x y) (raises-only h ticks k t (omega (arith, shown t k x y, earlier-is t k x y)));
+        raises-only = λ t k x y r. rw (shown t k x y) (raises-only h ticks k t (omega (arith, shown t k x y, before-is t k x y)));
         allowance =
             λ t x.
             le-trans
@@ -46,4 +45,7 @@ module _
         share = λ t k x y w. rw (shown t k x y) (share h ticks t k _ (omega (arith, equal-part h ticks t)));
         urgent = λ t k n x y u said. zeroed t t k y (urgent h ticks k t n said u);
         ordinary = λ t k n x y said. zeroed t _ k y (ordinary h ticks k t n said _ (omega arith));
+        stays-zero =
+            λ t k n x y said u v a z b w.
+            rw (shown v k w y) (stays-silent h ticks k t n said u v a (sym (shown u k (omega arith) y) ∙ z) b);
       }

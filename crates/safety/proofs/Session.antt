@@ -15,8 +15,7 @@ use Rattle.lead.specs.Moves.{moves, mayMove, nextPhase, reasonAfter, ageAfter, 
 use Rattle.lead.specs.Power.{wanted, wantedWatts, commanded}
 use Rattle.lead.specs.Good.{goodThreshold, goodLead}
 use Rattle.lead_records.specs.Inputs.{inputOf, goodInput}
-use Rattle.lead_records.specs.Outputs as outputs
-use Rattle.lead_records.specs.Outputs.{controls, testVolts, flagsOf, remainingOf, reportOf, outputOf}
+use Rattle.lead_records.specs.Outputs.{controls, testVolts, flagsOf, remainingOf, reportOf, shownBytes, outputOf}
 use Rattle.lead_records.specs.States.{decode, encode, goodState}
 use Rattle.post.specs.Parts.{joined, every}
 use Rattle.post.specs.Heads.{headOf, headBytes}
@@ -51,5 +50,5 @@ pub session-shows :
     ∷ (1 ∷ 0 ∷ 0 ∷ 6 ∷ 0 ∷ 7 ∷ [])
     ∷ []
     )
-unfolding session ticksOf setupOf tickOf leadsOf ofBits ofInt le lt eq mul sub least inRange connectorVolts inSteps allowedResistance isFrame newestRecord newestBattery newestTime newestStatus signalsOf chargingTicks remainingTime offerBytes flagsByte reportBytes given levelOf hearBattery hearTime hearStatus silenceAfter hearCar hear viewOf questions ask moves mayMove nextPhase reasonAfter ageAfter goOn advance decide wanted wantedWatts commanded goodThreshold goodLead inputOf goodInput controls testVolts flagsOf remainingOf reportOf outputs.shownBytes outputOf decode encode goodState joined every headOf headBytes decidedAt levelAfter leadAfter postBytes outputBytes headRefusal setupRefusal goodPost inputRefusal tickRefusal
+unfolding session ticksOf setupOf tickOf leadsOf ofBits ofInt le lt eq mul sub least inRange connectorVolts inSteps allowedResistance isFrame newestRecord newestBattery newestTime newestStatus signalsOf chargingTicks remainingTime offerBytes flagsByte reportBytes given levelOf hearBattery hearTime hearStatus silenceAfter hearCar hear viewOf questions ask moves mayMove nextPhase reasonAfter ageAfter goOn advance decide wanted wantedWatts commanded goodThreshold goodLead inputOf goodInput controls testVolts flagsOf remainingOf reportOf shownBytes outputOf decode encode goodState joined every headOf headBytes decidedAt levelAfter leadAfter postBytes outputBytes headRefusal setupRefusal goodPost inputRefusal tickRefusal
 session-shows = refl

@@ -30,13 +30,12 @@ module _ (h : Head) (ticks : List Tick) (k : ℕ) where
   abbrev command : ℕ → ℕ
   command t = steps.command h ticks k t
 
-  -- after a no in tick t: 0 in a tick that is not past the latest, and from each tick with 0 on until the lead is started anew
+  -- after a no in tick t: 0 in a tick that is not past the latest
   pub record FallsSilent (t latest : ℕ) : Type 0 where
     pub tick : ℕ
     pub from : t ≤ tick
     pub by : tick ≤ latest
     pub zeroed : command tick ≡ 0
-    pub stays : (u v : ℕ) → t ≤ u → command u ≡ 0 → u ≤ v → (command v ≡ 0) ⊎ StartedAnew h ticks t v k
 
   -- started anew in tick v or before
   abbrev Anew : ℕ → ℕ → Type 0
@@ -166,9 +165,9 @@ module _ (h : Head) (ticks : List Tick) (k : ℕ) where
         (and-i (between 1 8 (phase t)) (not (isPass (verdictAt h ticks k t))) began
         (no-is-stop (h .ratings) (input h ticks k t) (lead h ticks k t) n said)))
 
-    -- from a tick with 0 on
-    stays : (u v : ℕ) → t ≤ u → command u ≡ 0 → u ≤ v → (command v ≡ 0) ⊎ StartedAnew h ticks t v k
-    stays u v x zeroed y = go (falling t t (omega arith) stops u x)
+    -- from each tick with 0 on until the lead is started anew
+    pub stays-silent : (u v : ℕ) → t ≤ u → command u ≡ 0 → u ≤ v → (command v ≡ 0) ⊎ StartedAnew h ticks t v k
+    stays-silent u v x zeroed y = go (falling t t (omega arith) stops u x)
       where
         from-u : Falling t u v → (command v ≡ 0) ⊎ StartedAnew h ticks t v k
         from-u (inl r) = inl (omega (arith, r .1))
@@ -178,9 +177,6 @@ module _ (h : Head) (ticks : List Tick) (k : ℕ) where
         go (inl r) = from-u (falling t u x (r .0) v y)
         go (inr anew) = before-or-silent t v (le-ind (Anew t) anew (λ w z. anew-next t w (omega arith)) v y)
 
-    silent-at : (u latest : ℕ) → t ≤ u → u ≤ latest → command u ≡ 0 → FallsSilent t latest
-    silent-at u latest a b z = record { tick = u; from = a; by = b; zeroed = z; stays = stays }
-
     pub urgent : T (isUrgentQuestion n) → FallsSilent t t
     urgent u =
         let past-8 : T (between 9 10 (phase (suc t))) =
@@ -188,15 +184,25 @@ module _ (h : Head) (ticks : List Tick) (k : ℕ) where
         (in-tick h ticks k urgentlyStopped urgent-into t)
         (and-i (between 1 8 (phase t)) (isUrgent (verdictAt h ticks k t)) began
         (no-is-urgent (h .ratings) (input h ticks k t) (lead h ticks k t) n said (between-hi 11 18 n u))) in
-        silent-at t t (omega arith) (omega arith)
-        (unpowered h ticks k t (λ w. omega (arith, between-lo 9 10 (phase (suc t)) past-8, between-hi 6 7 (phase (suc t)) w)))
+        record {
+          tick = t;
+          from = omega arith;
+          by = omega arith;
+          zeroed = unpowered h ticks k t (λ w. omega (arith, between-lo 9 10 (phase (suc t)) past-8, between-hi 6 7 (phase (suc t)) w));
+        }
 
     -- 10 A a tick, from the rating down; or unplugged sooner, and then 0 in the tick that unplugs
     pub ordinary : (ticks-later : ℕ) → h .ratings .amperes ≤ 10 * (ticks-later + 1) → FallsSilent t (t + ticks-later)
     ordinary m rated = go (falling t t (omega arith) stops (t + m) (omega arith))
       where
         go : Falling t t (t + m) → FallsSilent t (t + m)
-        go (inl r) = silent-at (t + m) (t + m) (omega arith) (omega arith) (omega (arith, r .1, down-falls t t stops, most t))
+        go (inl r) =
+            record { tick = t + m; from = omega arith; by = omega arith; zeroed = omega (arith, r .1, down-falls t t stops, most t) }
         go (inr s) =
-            silent-at (s .unplugged) (t + m) (omega (arith, s .after)) (omega (arith, s .later, s .sooner))
-            (unpowered h ticks k (s .unplugged) (λ w. omega (arith, s .reset .1, between-lo 6 7 (phase (suc (s .unplugged))) w)))
+            record {
+              tick = s .unplugged;
+              from = omega (arith, s .after);
+              by = omega (arith, s .later, s .sooner);
+              zeroed =
+                  unpowered h ticks k (s .unplugged) (λ w. omega (arith, s .reset .1, between-lo 6 7 (phase (suc (s .unplugged))) w));
+            }

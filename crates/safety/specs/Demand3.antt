@@ -18,9 +18,8 @@ use Rattle.lead.specs.Questions.{gotNo}
 use Rattle.lead.specs.declared.state.Lead.{Lead}
 use Rattle.lead.specs.declared.state.Contacts.{Contacts}
 use Rattle.lead_records.specs.Inputs.{contactsOf, frameRecords}
-use Rattle.lead_records.specs.Outputs.{outputSize}
-use Rattle.post.specs.Parts.{part}
-use Rattle.post.specs.Rules.{limitOf, inputPart, inputAt, wantAfter, leadAfter}
+use Rattle.post.specs.Heads.{inputPart, outputPart}
+use Rattle.post.specs.Rules.{limitOf, inputAt, wantAfter, leadAfter}
 use Rattle.post.specs.declared.head.Head.{Head}
 use Rattle.safety.specs.Lists.{Tick}
 
@@ -45,7 +44,7 @@ module _ (h : Head) (ticks : List Tick) where
 
   -- "Commands are the outputs'": byte 2 of what the lead shows
   abbrev pub commandAt : ℕ → ℕ → ℕ
-  commandAt t k = byteAt (part 0 outputSize k (getD ticks t noTick .output)) 2
+  commandAt t k = byteAt (outputPart (getD ticks t noTick .output) k) 2
 
   -- "Phases, thresholds, wants and the questions' answers are what the rules above give for the list's setup and inputs": the leads
   -- before tick t, from fresh ones on
@@ -102,9 +101,9 @@ module _ (h : Head) (ticks : List Tick) where
     pub stayed : (u : ℕ) → locked ≤ u → u ≤ t → Closed u k
 
   -- "Raised: above the lead's command in the tick before, or above 0 in the first tick."
-  abbrev pub earlier : ℕ → ℕ → ℕ
-  earlier zero k = 0
-  earlier (suc t) k = commandAt t k
+  abbrev pub commandBefore : ℕ → ℕ → ℕ
+  commandBefore zero k = 0
+  commandBefore (suc t) k = commandAt t k
 
   -- "The newest status frame is the last H'102 of length 8 in the lead's inputs so far, this tick's included"
   pub record Newest (t k : ℕ) : Type 0 where
@@ -133,20 +132,22 @@ module _ (h : Head) (ticks : List Tick) where
     pub sooner : anew < v
     pub started : Moves anew k 0 1
 
-  -- "Zero after a no", in tick t: in a tick that is not past the latest, "unless the list ends sooner. From there", that is from every tick
-  -- on in which it is zero, "it is 0 in every tick until the lead is started anew."
+  -- "Zero after a no", in tick t: in a tick that is not past the latest, "unless the list ends sooner."
   pub record Zeroed (t latest k : ℕ) : Type 0 where
     pub tick : ℕ
     pub from : t ≤ tick
     pub by : tick ≤ latest
     pub zeroed : tick < length ticks → commandAt tick k ≡ 0
-    pub stays : (u v : ℕ) → t ≤ u → commandAt u k ≡ 0 → u ≤ v → v < length ticks → (commandAt v k ≡ 0) ⊎ StartedAnew t v k
+
+  -- "From there", that is from every tick u on in which it is zero, "it is 0 in every tick until the lead is started anew."
+  abbrev pub StaysZero : ℕ → ℕ → Type 0
+  StaysZero t k = (u v : ℕ) → t ≤ u → commandAt u k ≡ 0 → u ≤ v → v < length ticks → (commandAt v k ≡ 0) ⊎ StartedAnew t v k
 
   pub record Demand3 : Type 0 where
     -- "A lead commands current only while plug, lock contact and permission have stayed closed since before its insulation test passed."
     pub stayed-closed : (t k : ℕ) → t < length ticks → k < h .leads → 0 < commandAt t k → StayedClosed t k
     -- "It raises it only if the car's newest status frame is at most 9 ticks old, permits, and asks that much."
-    pub raises-only : (t k : ℕ) → t < length ticks → k < h .leads → earlier t k < commandAt t k → MayRaise t k (commandAt t k)
+    pub raises-only : (t k : ℕ) → t < length ticks → k < h .leads → commandBefore t k < commandAt t k → MayRaise t k (commandAt t k)
     -- "Commanded amperes times threshold volts, summed over the leads, never pass the allowance"
     pub allowance : (t : ℕ) → t < length ticks → sum (h .leads) (λ k. commandAt t k * thresholdAt t k) ≤ limitAt t
     -- "and each charging lead gets at least what its want or an equal part, whichever is less, carries in whole amperes." "A charging lead
@@ -157,7 +158,8 @@ module _ (h : Head) (ticks : List Tick) where
         → k < h .leads
         → T (between 6 7 (phaseAt t k))
         → min (wantAt t k) (equalPart (h .leads) (wantAt t) (limitAt t)) / thresholdAt t k ≤ commandAt t k
-    -- "After a stop question gets a no, it commands zero in that tick if urgent, by the 20th otherwise, that tick being the first. There it
-    -- stays until unplugged and then started anew."
+    -- "After a stop question gets a no, it commands zero in that tick if urgent, by the 20th otherwise, that tick being the first."
     pub urgent : (t k n : ℕ) → t < length ticks → k < h .leads → T (isUrgentQuestion n) → NoAt t k n → Zeroed t t k
     pub ordinary : (t k n : ℕ) → t < length ticks → k < h .leads → NoAt t k n → Zeroed t (t + 19) k
+    -- "There it stays until unplugged and then started anew."
+    pub stays-zero : (t k n : ℕ) → t < length ticks → k < h .leads → NoAt t k n → StaysZero t k

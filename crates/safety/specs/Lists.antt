@@ -4,10 +4,11 @@ use mathlib.Core.List.{List, [], _∷_}
 use Prim.Native.Nat.{ℕ}
 use lib.Dec.{eqb}
 use Rattle.post.specs.Calls.{SetUp, setupOf, Ticked, tickOf}
+use Rattle.post.specs.declared.head.Head.{Head}
 
--- a call, with the bytes that it lends: any numbers, any bytes, any lengths
+-- a call, with the bytes that it lends: any numbers (a setup's are a head), any bytes, any lengths
 pub data Call : Type 0 where
-  setup : (leads volts amperes resistance : ℕ) (buffer : List ℕ) → Call
+  setup : (h : Head) (buffer : List ℕ) → Call
   tick : (input output : List ℕ) → Call
 
 -- what a call returns and leaves: the post's state, and the call's own buffer (a setup's, or a tick's output)
@@ -18,8 +19,8 @@ pub record Answer : Type 0 where
 
 -- Accepted, a setup's buffer becomes the state; refused, the post keeps its state.
 unfoldable pub answer : List ℕ → Call → Answer
-answer state (setup leads volts amperes resistance buffer) =
-    let done : SetUp = setupOf leads volts amperes resistance buffer in
+answer state (setup h buffer) =
+    let done : SetUp = setupOf h buffer in
     record { number = done .number; state = cond (eqb (done .number) 0) (done .state) state; lent = done .state }
 answer state (tick input output) =
     let done : Ticked = tickOf state input output in
@@ -39,8 +40,7 @@ pub record Tick : Type 0 where
 -- new list", so this one ends there.
 unfoldable pub ticksOf : List ℕ → List Call → List Tick
 ticksOf state [] = []
-ticksOf state (setup leads volts amperes resistance buffer ∷ calls) =
-    cond (eqb (setupOf leads volts amperes resistance buffer .number) 0) [] (ticksOf state calls)
+ticksOf state (setup h buffer ∷ calls) = cond (eqb (setupOf h buffer .number) 0) [] (ticksOf state calls)
 ticksOf state (tick input output ∷ calls) =
     let done : Ticked = tickOf state input output in
     cond (eqb (done .number) 0) (record { input = input; output = done .output } ∷ ticksOf (done .state) calls)

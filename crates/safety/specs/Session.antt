@@ -4,9 +4,7 @@ use Prim.Native.Nat.{ℕ, _-_}
 use lib.ListN.{length, replicate, take}
 use Rattle.little_endian.specs.Numbers.{u32Bytes}
 use Rattle.lead_records.specs.Inputs.{inputSize}
-use Rattle.lead_records.specs.Outputs.{outputSize}
-use Rattle.post.specs.Heads.{stateLength, outputLength}
-use Rattle.post.specs.Parts.{part}
+use Rattle.post.specs.Heads.{stateLength, outputLength, outputPart, headFrom}
 use Rattle.post.specs.Calls.{setupOf}
 use Rattle.safety.specs.Lists.{Call, tick, Tick, ticksOf}
 
@@ -48,8 +46,9 @@ start = given 0x21 0 0 []
 abbrev handshake : List ℕ
 handshake = given 3 0 3 (battery ++ time ++ opened)
 
-abbrev lock : List ℕ
-lock = given 7 3 0 []
+-- plug, charge permission and lock stay closed
+abbrev hold : List ℕ
+hold = given 7 3 0 []
 
 abbrev test : List ℕ
 test = given 7 7 0 []
@@ -71,10 +70,10 @@ unfoldable pub session : List Call
 session =
     both 1000 start unplugged
     ∷ both 1000 handshake start
-    ∷ both 1000 lock handshake
-    ∷ both 1000 test lock
-    ∷ both 1000 lock test
-    ∷ both 1000 charge lock
+    ∷ both 1000 hold handshake
+    ∷ both 1000 test hold
+    ∷ both 1000 hold test
+    ∷ both 1000 charge hold
     ∷ both 1000 charge charge
     ∷ both 1000 charge charge
     -- too short an input: refused
@@ -82,21 +81,21 @@ session =
     -- power for 7 of the 14 A that both want
     ∷ both 350 charge charge
     ∷ both 350 stop charge
-    ∷ both 350 lock charge
+    ∷ both 350 hold charge
     ∷ both 350 release charge
-    ∷ both 350 lock charge
+    ∷ both 350 hold charge
     ∷ both 350 unplugged charge
     ∷ both 350 start charge
     ∷ []
 
 -- phase, reason and command of both leads after a tick
 abbrev shown : Tick → List ℕ
-shown t = take 3 (part 0 outputSize 0 (t .output)) ++ take 3 (part 0 outputSize 1 (t .output))
+shown t = take 3 (outputPart (t .output) 0) ++ take 3 (outputPart (t .output) 1)
 
-abbrev pub all : List Tick → List (List ℕ)
-all [] = []
-all (t ∷ ticks) = shown t ∷ all ticks
+abbrev pub allShown : List Tick → List (List ℕ)
+allShown [] = []
+allShown (t ∷ ticks) = shown t ∷ allShown ticks
 
 -- the session on a post with two leads, 500 V and 10 A
 abbrev pub played : List (List ℕ)
-played = all (ticksOf (setupOf 2 500 10 0 (replicate (stateLength 2) 0) .state) session)
+played = allShown (ticksOf (setupOf (headFrom 2 500 10 0) (replicate (stateLength 2) 0) .state) session)

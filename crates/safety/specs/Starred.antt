@@ -1,7 +1,7 @@
 -- The starred cases of document 01, in its order: what the rules give, beside what it states. Definitions only.
 use mathlib.Core.Bool.{Bool, true, false, cond, _&&_}
 use mathlib.Core.List.{List, [], _∷_, _++_}
-use Prim.Native.Nat.{ℕ, zero, suc}
+use Prim.Native.Nat.{ℕ, zero, suc, _-_}
 use lib.Dec.{eqb}
 use lib.Ieee.{Float, fin}
 use lib.IntN.{pos, negsuc}
@@ -16,16 +16,14 @@ use Rattle.frames.specs.declared.heard.TimeFrame.the-variants as time
 use Rattle.frames.specs.declared.heard.StatusFrame.the-variants as status
 use Rattle.sharing.specs.Level.{wantAt, levelOf}
 use Rattle.lead.specs.Names.{insulationTest, charging, noReason, lowInsulation}
-use Rattle.lead.specs.Questions.{gotNo}
+use Rattle.lead.specs.Questions.{meterOf, gotNo}
 use Rattle.lead.specs.Power.{wantedWatts, commanded}
 use Rattle.lead.specs.declared.state.Lead.{Lead}
 use Rattle.lead.specs.declared.state.Input.{Input}
 use Rattle.lead.specs.declared.state.Ratings.{Ratings}
 use Rattle.lead_records.specs.Inputs.{contactsOf}
-use Rattle.lead_records.specs.Outputs.{figuresOf}
-use Rattle.post.specs.Heads.{headFrom}
+use Rattle.post.specs.Heads.{inputLength, headFrom}
 use Rattle.post.specs.Rules.{leadAfter}
-use Rattle.post.specs.declared.head.Head.{Head}
 
 -- a case: its number here, what the rules give, what the document states
 pub record Case : Type 0 where
@@ -42,7 +40,7 @@ minusZero = fin true 0 (pos 0)
 
 -- the connector's volts, from volts, amperes and the bits of the cable resistance
 abbrev connector : Float → Float → ℕ → ℕ
-connector volts amperes resistance = figuresOf (judgedOf (Value volts) (Value amperes) resistance) .volts
+connector volts amperes resistance = meterOf (judgedOf (Value volts) (Value amperes) resistance) .volts
 
 -- a post's ratings
 abbrev ratings : Ratings
@@ -94,7 +92,7 @@ shared limit =
 
 -- raw input of one lead: 100,000 W; plug, charge permission and lock closed, stop button pressed; 390 V and 0 A; no frames
 abbrev stopInput : List ℕ
-stopInput = (0xa0 ∷ 0x86 ∷ 1 ∷ 0 ∷ []) ++ (0x17 ∷ 3 ∷ 0 ∷ 0 ∷ []) ++ (0 ∷ 0 ∷ 0xc3 ∷ 0x43 ∷ []) ++ replicate 96 0
+stopInput = (0xa0 ∷ 0x86 ∷ 1 ∷ 0 ∷ []) ++ (0x17 ∷ 3 ∷ 0 ∷ 0 ∷ []) ++ (0 ∷ 0 ∷ 0xc3 ∷ 0x43 ∷ []) ++ replicate (inputLength 1 - 12) 0
 
 -- the command after some ticks with the stop button pressed, from 125 A on
 abbrev stopping : ℕ → ℕ → Lead

@@ -1,5 +1,5 @@
--- What document 01's rules give for a list of calls: their own trace, which knows nothing of `setupOf`, `tickOf` or the bytes that these
--- leave. Definitions only.
+-- What document 01's rules give for a list of calls: their own trace. From an accepted setup on it starts at fresh leads, and is worked out
+-- from the setup's numbers and the raw inputs alone: it knows nothing of `setupOf`, `tickOf` or the bytes that these leave. Definitions only.
 use mathlib.Core.Bool.{cond}
 use mathlib.Core.List.{List, [], _∷_}
 use Prim.Native.Nat.{ℕ}
@@ -7,7 +7,7 @@ use lib.Dec.{eqb}
 use lib.ListN.{length}
 use Rattle.lead.specs.Hearing.{fresh}
 use Rattle.lead.specs.declared.state.Lead.{Lead}
-use Rattle.post.specs.Heads.{headFrom, headOf}
+use Rattle.post.specs.Heads.{headOf}
 use Rattle.post.specs.Rules.{leadAfter, postBytes, outputBytes}
 use Rattle.post.specs.Refusals.{setupRefusal, goodPost, inputRefusal}
 use Rattle.post.specs.Calls.{leadsOf}
@@ -23,10 +23,6 @@ abbrev pub keptBytes : Kept → List ℕ
 keptBytes (post h leads) = postBytes h leads
 keptBytes (unusable bytes) = bytes
 
--- the bytes that a list of calls finds
-unfoldable pub keptOf : List ℕ → Kept
-keptOf state = cond (goodPost state) (post (headOf state) (leadsOf state)) (unusable state)
-
 -- what a call returns and leaves, by the rules
 pub record Ruled : Type 0 where
   pub number : ℕ
@@ -35,9 +31,8 @@ pub record Ruled : Type 0 where
 
 -- an accepted setup begins anew with fresh leads
 unfoldable pub ruled : Kept → Call → Ruled
-ruled kept (setup leads volts amperes resistance buffer) =
-    let refusal : ℕ = setupRefusal leads volts amperes resistance (length buffer) in
-    let h : Head = headFrom leads volts amperes resistance in
+ruled kept (setup h buffer) =
+    let refusal : ℕ = setupRefusal h (length buffer) in
     cond (eqb refusal 0)
     (record { number = 0; kept = post h (λ k. fresh); lent = postBytes h (λ k. fresh) })
     (record { number = refusal; kept = kept; lent = buffer })
@@ -54,3 +49,7 @@ answered done = record { number = done .number; state = keptBytes (done .kept); 
 unfoldable pub trace : Kept → List Call → List Answer
 trace kept [] = []
 trace kept (call ∷ calls) = answered (ruled kept call) ∷ trace (ruled kept call .kept) calls
+
+-- A list may also begin with bytes that no setup of its own wrote. A good state is read once, here, as the leads that the trace begins with.
+unfoldable pub keptOf : List ℕ → Kept
+keptOf state = cond (goodPost state) (post (headOf state) (leadsOf state)) (unusable state)

@@ -5,7 +5,7 @@ use mathlib.Core.Path.{sym, _∙_}
 use native.Mathlib.Omega.{arith}
 use lib.Dec.{eqb}
 use borrow.Author.Tests.{eq-eqb, ne-eqb}
-use Rattle.post.specs.Heads.{stateLength}
+use Rattle.post.specs.Heads.{stateLength, headFrom}
 use Rattle.post.specs.Refusals.{unless, setupRefusal}
 use Rattle.post.proofs.Asked.{first-refused, head-taken}
 use Rattle.post.proofs.refusals.setup_refusal.Statement.{statement}
@@ -23,7 +23,7 @@ cast-state-length c =
     let a = c .before .before .args in
     omega (
       arith,
-      head-taken (a .leads) (a .volts) (a .amperes) (a .resistance)
+      head-taken (headFrom (a .leads) (a .volts) (a .amperes) (a .resistance))
           (sym (c .before .head-refusal .ensures) ∙ c .if1 .left) .few-leads,
     )
 
