@@ -36,31 +36,36 @@ abbrev given : ℕ → ℕ → ℕ → List ℕ → List ℕ
 given contacts present count frames =
     padded inputSize ((contacts ∷ present ∷ count ∷ 0 ∷ []) ++ replicate 8 0 ++ (0 ∷ 0 ∷ 0 ∷ 0x46 ∷ []) ++ frames)
 
--- what a lead goes through, tick by tick: plug and start; plug and charge permission, the car's frames; lock closed as well
+-- what a lead is given: nothing plugged in
 abbrev unplugged : List ℕ
 unplugged = given 0 3 0 []
 
+-- plug closed, start pressed
 abbrev start : List ℕ
 start = given 0x21 0 0 []
 
+-- plug and charge permission closed, the car's first frames
 abbrev handshake : List ℕ
 handshake = given 3 0 3 (battery ++ time ++ opened)
 
--- plug, charge permission and lock stay closed
+-- from here on the lock is closed too
 abbrev hold : List ℕ
 hold = given 7 3 0 []
 
+-- with an insulation resistance
 abbrev test : List ℕ
 test = given 7 7 0 []
 
+-- with the contactor closed, and at last open
 abbrev charge : List ℕ
 charge = given 7 3 1 closed
 
-abbrev stop : List ℕ
-stop = given 0x17 3 0 []
-
 abbrev release : List ℕ
 release = given 7 3 1 opened
+
+-- the stop button pressed
+abbrev stop : List ℕ
+stop = given 0x17 3 0 []
 
 -- a tick of two leads
 abbrev both : ℕ → List ℕ → List ℕ → Call
