@@ -1,4 +1,4 @@
--- A list of calls in which everything happens that demand 3 speaks of, so that it does not hold for want of cases. Definitions only.
+-- A list of calls in which what demand 3 speaks of happens: its claims are not empty. Definitions only.
 use mathlib.Core.List.{List, [], _∷_, _++_}
 use Prim.Native.Nat.{ℕ, _-_}
 use lib.ListN.{length, replicate, take}
