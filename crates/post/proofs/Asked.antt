@@ -101,8 +101,9 @@ module _ (state : List ℕ) where
       let other : eqb (length state) (stateLength n) ≡ false = ne-eqb (length state) (stateLength n) (λ e. omega arith) in
       rw other (go (goodHead (headOf state)))
     where
-      go : (b : Bool) → false ≡ (b && false && every (headOf state .leads)
-          (λ k. goodState (headOf state .ratings) (statePart state k)))
+      go :
+          (b : Bool)
+          → false ≡ (b && false && every (headOf state .leads) (λ k. goodState (headOf state .ratings) (statePart state k)))
       go true = refl
       go false = refl
 
@@ -117,8 +118,8 @@ module _ (state : List ℕ) where
       other-length n = rw (← e, yes-head, ne-eqb _ _ n)
 
       pub good-if-leads :
-          length state ≡ stateLength (h .leads) → every (h .leads) (λ k. goodState (h .ratings) (statePart state k)) ≡
-          goodPost state
+          length state ≡ stateLength (h .leads)
+          → every (h .leads) (λ k. goodState (h .ratings) (statePart state k)) ≡ goodPost state
       unfolding goodPost
       good-if-leads long = rw (← e, yes-head, eq-eqb _ _ long)
 
@@ -172,8 +173,11 @@ taken-whole state input room e =
       shown = eqb→eq room (outputLength n) (is-met (eqb room (outputLength n)) 7 (eight .0));
     }
 
-pub tick-taken : {h : Head} {state input : List ℕ} {room : ℕ} → h ≡ headOf state → tickRefusal state input room ≡ 0 → TickTaken h state
-    input room
+pub tick-taken :
+    {h : Head} {state input : List ℕ} {room : ℕ}
+    → h ≡ headOf state
+    → tickRefusal state input room ≡ 0
+    → TickTaken h state input room
 tick-taken {state = state} {input = input} {room = room} own e = rw own (taken-whole state input room e)
 
 -- a setup is refused with 1 to 5

@@ -11,8 +11,9 @@ use lib.Seq.{take-at, drop-at, drop-drop, length-take-le, take-append-le, drop-a
 use Rattle.post.specs.Parts.{part, joined}
 
 -- record i as the code cuts it out
-pub cut : (head size i : ℕ) (bytes : List ℕ) → take (head + size * i + size - (head + size * i)) (drop (head + size * i) bytes) ≡ part head
-    size i bytes
+pub cut :
+    (head size i : ℕ) (bytes : List ℕ)
+    → take (head + size * i + size - (head + size * i)) (drop (head + size * i) bytes) ≡ part head size i bytes
 cut head size i bytes = ap (λ (k : ℕ). take k (drop (head + size * i) bytes)) (add-sub-cancel-left (head + size * i) size)
 
 -- families that agree below n
@@ -88,18 +89,26 @@ module _ (size : ℕ) (F : ℕ → List ℕ) (sized : (k : ℕ) → length (F k)
         let long : length w ≡ size = ap length ew ∙ sized i in
         let short : length (take room (drop at now)) ≤ length w = omega (arith, length-take room (drop at now)) in
         let whole : p ≡ F i =
-        ep ∙ ap (λ (r : List ℕ). take (length w) w ++ r) (drop-of-length-le (take room (drop at now)) short) ∙ append-nil _ ∙ take-length w
+        ep
+        ∙ ap (λ (r : List ℕ). take (length w) w ++ r) (drop-of-length-le (take room (drop at now)) short)
+        ∙ append-nil _
+        ∙ take-length w
         ∙ ew in
         let more = filled-more i at room now p h ea er whole (before .1) in
         (ap length more ∙ filled-length (i + 1) h g, more)
 
     pub filled-all :
-        (n i : ℕ) (now : List ℕ) → length bytes ≡ head + size * n → i ≡ n → Filling head size F bytes now i → now ≡ take head bytes ++
-        joined n F
+        (n i : ℕ) (now : List ℕ)
+        → length bytes ≡ head + size * n
+        → i ≡ n
+        → Filling head size F bytes now i
+        → now ≡ take head bytes ++ joined n F
     filled-all n i now e q all =
         let g : length bytes ≤ head + size * n = omega arith in
-        all .1 ∙ ap (filled head size F bytes) q ∙ ap (λ (r : List ℕ). take head bytes ++ joined n F ++ r) (drop-of-length-le bytes g) ∙
-        append-nil _
+        all .1
+        ∙ ap (filled head size F bytes) q
+        ∙ ap (λ (r : List ℕ). take head bytes ++ joined n F ++ r) (drop-of-length-le bytes g)
+        ∙ append-nil _
 
   newest : (n : ℕ) → take size (drop (size * n) (joined n F ++ F n)) ≡ F n
   newest n =

@@ -49,11 +49,9 @@ module _ (h : Head) (leads : ℕ → Lead) where
 
   pub post-sized : length bytes ≡ stateLength (h .leads)
   unfolding postBytes
-  post-sized = length-append (headBytes h) _ ∙ rw (
-    head-length h,
-    joined-length stateSize (λ k. encode (leads k))
-        (λ k. encode-length (leads k)) (h .leads),
-  )
+  post-sized =
+      length-append (headBytes h) _
+      ∙ rw (head-length h, joined-length stateSize (λ k. encode (leads k)) (λ k. encode-length (leads k)) (h .leads))
 
   part-back : (k : ℕ) → k < h .leads → statePart bytes k ≡ encode (leads k)
   unfolding postBytes
@@ -115,8 +113,7 @@ module _ (state : List ℕ) (good : T (goodPost state)) where
           low-half-back (u16At state 4) (u16At state 6) half-small,
           high-half-back (u16At state 4) (u16At state 6) half-small,
           low 2,
-          high
-              2,
+          high 2,
           low 4,
           high 4,
           low 6,

@@ -81,8 +81,7 @@ module _ (h : Head) (input : List ℕ) (leads : ℕ → Lead) where
         ap (λ (g : Head). leadAfter g input (leadsOf mine) k) (post-head-back h leads)
         ∙ after-same h input (leadsOf mine) leads (lead-back h leads) k below
 
-    state-is : stateAfter mine input ≡ postBytes h
-        (leadAfter h input leads)
+    state-is : stateAfter mine input ≡ postBytes h (leadAfter h input leads)
     unfolding postBytes
     state-is =
         rw (take-at (headBytes h) (joined (h .leads) (λ k. encode (leads k))) headSize (head-length h))
@@ -105,8 +104,9 @@ module _ (h : Head) (input : List ℕ) (leads : ℕ → Lead) where
 
 -- byte 2 of what lead k shows is its command
 pub shown-command :
-    (h : Head) (input : List ℕ) (leads : ℕ → Lead) (k : ℕ) → k < h .leads → byteAt (outputPart (outputBytes h input leads) k) 2 ≡
-    leads k .command
+    (h : Head) (input : List ℕ) (leads : ℕ → Lead) (k : ℕ)
+    → k < h .leads
+    → byteAt (outputPart (outputBytes h input leads) k) 2 ≡ leads k .command
 unfolding outputBytes
 shown-command h input leads k below =
     ap (λ (b : List ℕ). byteAt b 2)
@@ -114,7 +114,9 @@ shown-command h input leads k below =
     ∙ output-command (h .ratings) _ _ (leads k)
 
 -- bytes that are no good state
-pub tick-unusable : (state input output : List ℕ) → goodPost state ≡ false → tickOf state input output ≡ record
-    { number = 6; state = state; output = output }
+pub tick-unusable :
+    (state input output : List ℕ)
+    → goodPost state ≡ false
+    → tickOf state input output ≡ record { number = 6; state = state; output = output }
 unfolding tickOf tickRefusal
 tick-unusable state input output bad = rw bad

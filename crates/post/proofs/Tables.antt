@@ -65,7 +65,7 @@ module _ (h : Head) (state input : List ℕ) (i : ℕ) where
   abbrev inputRecord : List ℕ
   inputRecord = take (limitSize + inputSize * i + inputSize - (limitSize + inputSize * i)) (drop (limitSize + inputSize * i) input)
 
-  pub turn-cut : decidedTurn (h .ratings) (decode stateRecord) (inputOf inputRecord (h .ratings .resistance)) ≡ turnAt h input
-      (leadsOf state) i
+  pub turn-cut :
+      decidedTurn (h .ratings) (decode stateRecord) (inputOf inputRecord (h .ratings .resistance)) ≡ turnAt h input (leadsOf state) i
   unfolding leadsOf
   turn-cut = rw (cut headSize stateSize i state, cut limitSize inputSize i input)

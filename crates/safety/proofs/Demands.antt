@@ -29,8 +29,10 @@ unfolding keptOf
 demand-2 state small calls = go (goodPost state) refl
   where
     go : (b : Bool) → goodPost state ≡ b → answers state calls ≡ trace (keptOf state) calls
-    go true e = rw e (ap (λ (s : List ℕ). answers s calls) (sym (read-again state (holds e) small)) ∙ all-follow (post _ _)
-        (read-sound state (holds e)) calls)
+    go true e =
+        rw e
+        (ap (λ (s : List ℕ). answers s calls) (sym (read-again state (holds e) small))
+        ∙ all-follow (post _ _) (read-sound state (holds e)) calls)
     go false e = rw e (all-follow (unusable state) e calls)
 
 -- an accepted setup

@@ -23,8 +23,7 @@ returns-3 c =
     rw (
       said-yes (j .before .is-between .ensures) (j .if1 .left),
       said-yes (k .before .is-between2 .ensures) (k .if2 .left),
-      said-no
-          (c .before .is-between3 .ensures) (c .if3 .taken),
+      said-no (c .before .is-between3 .ensures) (c .if3 .taken),
     )
 
 returns-4 : tie.Need-returns-4
@@ -36,8 +35,7 @@ returns-4 c =
     rw (
       said-yes (j .before .is-between .ensures) (j .if1 .left),
       said-yes (k .before .is-between2 .ensures) (k .if2 .left),
-      said-yes
-          (l .before .is-between3 .ensures) (l .if3 .left),
+      said-yes (l .before .is-between3 .ensures) (l .if3 .left),
       said-no (c .before .is-allowed-resistance .ensures) (c .if4 .taken),
     )
 
@@ -50,8 +48,7 @@ returns-5 c =
     rw (
       said-yes (j .before .is-between .ensures) (j .if1 .left),
       said-yes (k .before .is-between2 .ensures) (k .if2 .left),
-      said-yes
-          (l .before .is-between3 .ensures) (l .if3 .left),
+      said-yes (l .before .is-between3 .ensures) (l .if3 .left),
       said-yes (c .before .is-allowed-resistance .ensures) (c .if4 .left),
     )
 

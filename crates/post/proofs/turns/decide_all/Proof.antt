@@ -13,8 +13,10 @@ use Rattle.post.proofs.turns.decide_all.Statement.{statement}
 use Rattle.post.proofs.turns.decide_all.Tie as tie
 
 abbrev Inv-loop : tie.InvT-loop
-Inv-loop head state input turns₀ leads i₀ turns i = (i ≤ head .leads) × (length turns ≡ places) ×
-    ((k : ℕ) → getD turns k emptyTurn ≡ among i (turnAt head input (leadsOf state)) k)
+Inv-loop head state input turns₀ leads i₀ turns i =
+    (i ≤ head .leads)
+    × (length turns ≡ places)
+    × ((k : ℕ) → getD turns k emptyTurn ≡ among i (turnAt head input (leadsOf state)) k)
 
 abbrev μ-loop : tie.MeasureT-loop
 μ-loop head state input turns₀ leads i₀ turns i = head .leads - i
