@@ -49,4 +49,4 @@ returns-4 c =
 pub input-refusal-spec : {M : Type 1} → statement M
 input-refusal-spec =
     tie.close
-    (tie.spec search needs returns search needs returns-2 are-good-inputs-requires returns-3 returns-4)
+    (tie.spec (search needs) returns (search needs) returns-2 are-good-inputs-requires returns-3 returns-4)

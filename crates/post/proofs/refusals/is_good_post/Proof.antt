@@ -36,4 +36,4 @@ returns-4 c =
 pub is-good-post-spec : {M : Type 1} → statement M
 is-good-post-spec =
     tie.close
-    (tie.spec returns (search needs) search needs returns-2 search needs returns-3 are-good-states-requires returns-4)
+    (tie.spec returns (search needs) (search needs) returns-2 (search needs) returns-3 are-good-states-requires returns-4)

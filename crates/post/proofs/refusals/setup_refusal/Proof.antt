@@ -42,4 +42,4 @@ returns-3 c =
 pub setup-refusal-spec : {M : Type 1} → statement M
 setup-refusal-spec =
     tie.close
-    (tie.spec search needs returns cast-state-length search needs returns-2 returns-3)
+    (tie.spec (search needs) returns cast-state-length (search needs) returns-2 returns-3)

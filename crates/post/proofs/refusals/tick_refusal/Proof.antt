@@ -29,4 +29,4 @@ returns-2 c =
 pub tick-refusal-spec : {M : Type 1} → statement M
 tick-refusal-spec =
     tie.close
-    (tie.spec search needs returns read-requires search needs returns-2)
+    (tie.spec (search needs) returns read-requires (search needs) returns-2)

@@ -18,4 +18,4 @@ returns c =
 pub write-fresh-spec : {M : Type 1} → statement M
 write-fresh-spec =
     tie.close
-    (tie.spec search needs search needs search needs search needs search needs search needs returns)
+    (tie.spec (search needs) (search needs) (search needs) (search needs) (search needs) (search needs) returns)
