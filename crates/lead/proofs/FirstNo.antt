@@ -14,8 +14,9 @@ module _ (p : ℕ) (rows : List Question) (i : ℕ) where
   pub first-here : (zero : Question) → i < length rows → isNo p (getD rows i zero) ≡ true → firstNo p (drop i rows) ≡ stopOf (getD rows i zero)
   first-here zero h e = rw (drop-cons rows i zero h, e)
 
-  pub first-later : (zero : Question) → i < length rows → isNo p (getD rows i zero) ≡ false → firstNo p (drop (i + 1) rows) ≡ firstNo p (drop i rows)
-  first-later zero h e = rw (drop-cons rows i zero h, e, add-one i)
+  pub first-later : (zero : Question) (next : ℕ) → next ≡ i + 1 → i < length rows → isNo p (getD rows i zero) ≡ false
+      → firstNo p (drop next rows) ≡ firstNo p (drop i rows)
+  first-later zero next n h e = rw (n, drop-cons rows i zero h, e, add-one i)
 
   pub first-none : length rows ≤ i → firstNo p (drop i rows) ≡ Pass
   first-none h = rw (drop-of-length-le rows h)

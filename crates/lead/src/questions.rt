@@ -115,18 +115,20 @@ impl Question {
     }
 }
 
+// From the last question to the first, so that an earlier no replaces a later one.
 fn first_no(phase: u8, rows: [Question; Question::COUNT]) -> Verdict
     ensures { λ r. ⌜ r ≡ firstNo phase rows ⌝ }
 {
-    let mut i = 0usize;
-    while i < Question::COUNT {
+    let mut verdict = Verdict::Pass;
+    let mut i = Question::COUNT;
+    while 0 < i {
+        i -= 1;
         let row = rows[i];
         if row.is_no(phase) {
-            return row.stop();
+            verdict = row.stop();
         }
-        i += 1;
     }
-    Verdict::Pass
+    verdict
 }
 
 impl Lead {

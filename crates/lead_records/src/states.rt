@@ -173,15 +173,15 @@ impl StateRecord {
     }
 }
 
+// Every byte is looked at: without an early end the compiler compares several at once.
 fn is_zero_from(bytes: &[u8], from: usize) -> bool
     ensures { λ r. ⌜ r ≡ allZero (drop from (now (bytes .entry))) ⌝ }
 {
+    let mut zero = true;
     let mut i = from;
     while i < bytes.len() {
-        if bytes[i] != 0 {
-            return false;
-        }
+        zero = zero & (bytes[i] == 0);
         i += 1;
     }
-    true
+    zero
 }

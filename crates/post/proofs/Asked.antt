@@ -181,19 +181,22 @@ pub tick-taken :
 tick-taken {state = state} {input = input} {room = room} own e = rw own (taken-whole state input room e)
 
 -- a setup is refused with 1 to 5
-pub setup-not-6 : (h : Head) (room : ℕ) → setupRefusal h room ≡ 6 → ⊥
+pub setup-most : (h : Head) (room : ℕ) → setupRefusal h room ≤ 5
 unfolding setupRefusal headRefusal
-setup-not-6 h room =
+setup-most h room =
     go (between 1 4 (h .leads)) (between 50 500 (h .ratings .volts)) (between 1 200 (h .ratings .amperes))
     (allowedResistance (h .ratings .resistance)) (eqb room (stateLength (h .leads)))
   where
-    go : (a b c d e : Bool) → firstOf (firstOf (unless a 1 ∷ unless b 2 ∷ unless c 3 ∷ unless d 4 ∷ []) ∷ unless e 5 ∷ []) ≡ 6 → ⊥
-    go false b c d e six = omega arith
-    go true false c d e six = omega arith
-    go true true false d e six = omega arith
-    go true true true false e six = omega arith
-    go true true true true false six = omega arith
-    go true true true true true six = omega arith
+    go : (a b c d e : Bool) → firstOf (firstOf (unless a 1 ∷ unless b 2 ∷ unless c 3 ∷ unless d 4 ∷ []) ∷ unless e 5 ∷ []) ≤ 5
+    go false b c d e = omega arith
+    go true false c d e = omega arith
+    go true true false d e = omega arith
+    go true true true false e = omega arith
+    go true true true true false = omega arith
+    go true true true true true = omega arith
+
+pub setup-not-6 : (h : Head) (room : ℕ) → setupRefusal h room ≡ 6 → ⊥
+setup-not-6 h room six = omega (arith, setup-most h room)
 
 -- a tick of a post with 7 to 9
 pub tick-not-6 : (leads : ℕ) (input : List ℕ) (room : ℕ) → inputRefusal leads input room ≡ 6 → ⊥
@@ -206,3 +209,20 @@ tick-not-6 leads input room =
     go true false c six = omega arith
     go true true false six = omega arith
     go true true true six = omega arith
+
+-- and any tick with 6 to 9
+pub tick-most : (state input : List ℕ) (room : ℕ) → tickRefusal state input room ≤ 9
+unfolding tickRefusal inputRefusal
+tick-most state input room =
+    go (goodPost state) (eqb (length input) (inputLength leads)) (eqb room (outputLength leads))
+    (every leads (λ k. goodInput (inputPart input k)))
+  where
+    leads : ℕ
+    leads = headOf state .leads
+
+    go : (a b c d : Bool) → firstOf (unless a 6 ∷ firstOf (unless b 7 ∷ unless c 8 ∷ unless d 9 ∷ []) ∷ []) ≤ 9
+    go false b c d = omega arith
+    go true false c d = omega arith
+    go true true false d = omega arith
+    go true true true false = omega arith
+    go true true true true = omega arith

@@ -2,14 +2,19 @@
 use mathlib.Core.Bool.{Bool, true, false}
 use mathlib.Core.List.{List, [], _∷_}
 use mathlib.Core.Logic.{_⊎_, inl, inr}
-use mathlib.Core.Path.{_≡_, refl, sym, subst, _∙_}
+use mathlib.Core.Path.{_≡_, refl, sym, ap, subst, _∙_}
 use Prim.Native.Nat.{ℕ, zero, suc, _+_, _-_, _*_, _≤_, _<_}
 use native.Mathlib.Omega.{arith}
-use lib.Dec.{ltb}
+use lib.Dec.{ltb, eqb}
 use lib.ListN.{length, getD, set, take, drop}
 use lib.Seq.{getD-set-same, getD-set-other}
-use borrow.Author.Tests.{ltb-true, ltb-false, lt-ltb, le-ltb}
+use borrow.Author.Tests.{eqb-true, eqb-false, ltb-true, ltb-false, lt-ltb, le-ltb}
+use Rattle.sharing.specs.Level.{wantAt}
+use Rattle.lead.specs.Hearing.{fresh}
+use Rattle.lead.specs.Power.{wantedWatts}
+use Rattle.lead.specs.declared.state.Ratings.{Ratings}
 use Rattle.lead.proofs.Bools.{at-or-past}
+use Rattle.lead.proofs.Commands.{watts-are, want-0}
 use Rattle.lead_records.specs.States.{stateSize, decode}
 use Rattle.lead_records.specs.Inputs.{inputSize, inputOf}
 use Rattle.post.specs.Heads.{headSize, limitSize}
@@ -56,6 +61,40 @@ module _ (f : ℕ → Turn) where
           let h : k < i = ltb-true k i q in
           getD-set-other turns i k v emptyTurn (λ q. omega arith) ∙ before k ∙ among-in i k h ∙ sym (among-in (i + 1) k (omega arith))
       go false q = past (at-or-past i k (ltb-false k i q))
+
+-- a place that no lead has wants nothing
+pub empty-wants : (c : Ratings) → wantedWatts c (emptyTurn .lead) ≡ 0
+empty-wants c = watts-are c fresh ∙ ap (λ (n : ℕ). n * 0) (want-0 c fresh (λ t. t))
+
+-- the wants beside the turns: at first none, then one more of both
+module _ (c : Ratings) where
+  abbrev pub Wanted : List Turn → List ℕ → Type 0
+  Wanted turns wants = (k : ℕ) → wantAt wants k ≡ wantedWatts c (getD turns k emptyTurn .lead)
+
+  pub wanted-none : (turns : List Turn) → ((k : ℕ) → getD turns k emptyTurn ≡ emptyTurn) → Wanted turns (0 ∷ 0 ∷ 0 ∷ 0 ∷ [])
+  wanted-none turns empty k = zeros k ∙ sym (ap (λ (t : Turn). wantedWatts c (t .lead)) (empty k) ∙ empty-wants c)
+    where
+      zeros : (k : ℕ) → wantAt (0 ∷ 0 ∷ 0 ∷ 0 ∷ []) k ≡ 0
+      zeros zero = refl
+      zeros (suc zero) = refl
+      zeros (suc (suc zero)) = refl
+      zeros (suc (suc (suc zero))) = refl
+      zeros (suc (suc (suc (suc k)))) = refl
+
+  pub wanted-more :
+      (i : ℕ) (turns : List Turn) (wants : List ℕ) (turn : Turn) (want : ℕ)
+      → i < length turns
+      → i < length wants
+      → want ≡ wantedWatts c (turn .lead)
+      → Wanted turns wants
+      → Wanted (set turns i turn) (set wants i want)
+  wanted-more i turns wants turn want room more e before k = go (eqb k i) refl
+    where
+      go : (b : Bool) → eqb k i ≡ b → wantAt (set wants i want) k ≡ wantedWatts c (getD (set turns i turn) k emptyTurn .lead)
+      go true q =
+          rw (eqb-true k i q, getD-set-same turns i turn emptyTurn room) (getD-set-same wants i want 0 more ∙ e)
+      go false q =
+          rw (getD-set-other turns i k turn emptyTurn (eqb-false k i q)) (getD-set-other wants i k want 0 (eqb-false k i q) ∙ before k)
 
 -- the turn of lead i, from its records as the code cuts them out
 module _ (h : Head) (state input : List ℕ) (i : ℕ) where

@@ -9,19 +9,19 @@ ghost use Rattle.post.specs.Heads.{stateLength, inputLength, outputLengt
 // The power limit, which stands before the leads' inputs (document 01: allowance).
 pub const LIMIT_SIZE: usize = 4;
 
-pub(crate) fn state_length(leads: u8) -> usize
+pub fn state_length(leads: u8) -> usize
     ensures { λ r. ⌜ r ≡ stateLength leads ⌝ }
 {
     Head::SIZE + StateRecord::SIZE * (leads as usize)
 }
 
-pub(crate) fn input_length(leads: u8) -> usize
+pub fn input_length(leads: u8) -> usize
     ensures { λ r. ⌜ r ≡ inputLength leads ⌝ }
 {
     LIMIT_SIZE + InputRecord::SIZE * (leads as usize)
 }
 
-pub(crate) fn output_length(leads: u8) -> usize
+pub fn output_length(leads: u8) -> usize
     ensures { λ r. ⌜ r ≡ outputLength leads ⌝ }
 {
     OutputRecord::SIZE * (leads as usize)

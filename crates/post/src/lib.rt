@@ -10,6 +10,9 @@ mod written;
 
 use head::Head;
 use lead::Ratings;
+pub use lengths::input_length;
+pub use lengths::output_length;
+pub use lengths::state_length;
 use names::Refusal;
 use refusals::setup_refusal;
 use refusals::tick_refusal;

@@ -1,11 +1,9 @@
 // A tick that nothing refuses: the leads decide, share the power limit, and are written.
 use super::head::Head;
-use super::turns::command_all;
 use super::turns::decide_all;
-use super::turns::level_among;
-use super::written::write_outputs;
-use super::written::write_states;
+use super::written::write_leads;
 use little_endian::u32_at;
+use sharing::level;
 ghost use mathlib.Core.Path.{_≡_};
 ghost use lib.ListN.{length};
 ghost use Rattle.post.specs.Refusals.{tickRefusal};
@@ -22,8 +20,7 @@ pub(crate) fn carry_out(state: &mut [u8], input: &[u8], output: &mut [u8])
     let head = Head::read(state);
     let limit = u32_at(input, LIMIT);
     let decided = decide_all(head, state, input);
-    let level = level_among(head.ratings, decided, limit);
-    let turns = command_all(head.ratings, level, decided);
-    write_states(head.leads, turns, state);
-    write_outputs(head, turns, output);
+    let turns = decided.turns;
+    let wants = decided.wants;
+    write_leads(head, level(wants, limit), turns, state, output);
 }

@@ -7,13 +7,12 @@ use lead_records::InputRecord;
 use lead_records::StateRecord;
 use readings::Judged;
 use sharing::PLACES;
-use sharing::level;
 ghost use mathlib.Core.Path.{_≡_};
 ghost use mathlib.Core.Bool.{true};
-ghost use Prim.Native.Nat.{ℕ, _≤_, _<_};
+ghost use Prim.Native.Nat.{ℕ, _≤_};
 ghost use lib.ListN.{length, getD};
 ghost use Rattle.readings.specs.Readings.{allowedResistance};
-ghost use Rattle.sharing.specs.Level.{places, levelOf};
+ghost use Rattle.sharing.specs.Level.{places, wantAt};
 ghost use Rattle.lead.specs.Power.{wantedWatts};
 ghost use Rattle.lead_records.specs.States.{stateSize, decode};
 ghost use Rattle.lead_records.specs.Inputs.{inputSize, inputOf};
@@ -50,7 +49,7 @@ impl Turn {
         lead.wanted_watts(ratings)
     }
 
-    fn command(self, ratings: Ratings, level: u32) -> Turn
+    pub(crate) fn command(self, ratings: Ratings, level: u32) -> Turn
         ensures { λ r. ⌜ r ≡ commandedTurn ratings level self ⌝ }
     {
         let lead = self.lead;
@@ -79,48 +78,35 @@ impl Turn {
     }
 }
 
-// Places past the post's leads stay fresh, and so want nothing.
-pub(crate) fn decide_all(head: Head, state: &[u8], input: &[u8]) -> [Turn; PLACES]
+// Every lead's turn, and what it wants.
+pub struct Decided {
+    pub turns: [Turn; PLACES],
+    pub wants: [u32; PLACES],
+}
+
+// Places past the post's leads stay empty and want nothing.
+pub(crate) fn decide_all(head: Head, state: &[u8], input: &[u8]) -> Decided
     requires { ⌜ (head .leads ≤ places) × (allowedResistance (head .ratings .resistance) ≡ true) ⌝ }
     requires { ⌜ (length (now state) ≡ stateLength (head .leads)) × (length (now input) ≡ inputLength (head .leads)) ⌝ }
-    ensures { λ r. ⌜ ((k : ℕ) → getD r k emptyTurn
+    ensures { λ r. ⌜ ((k : ℕ) → getD (r .turns) k emptyTurn
         ≡ among (head .leads) (turnAt head (now (input .entry)) (leadsOf (now (state .entry)))) k) ⌝ }
+    ensures { λ r. ⌜ ((k : ℕ) → wantAt (r .wants) k ≡ wantedWatts (head .ratings) (getD (r .turns) k emptyTurn .lead)) ⌝ }
 {
     let mut turns = [Turn::empty(); PLACES];
+    let mut wants = [0u32; PLACES];
     let leads = head.leads as usize;
     let mut i = 0;
     while i < leads {
         let at = Head::SIZE + StateRecord::SIZE * i;
         let from = LIMIT_SIZE + InputRecord::SIZE * i;
-        turns[i] = Turn::decided(
+        let turn = Turn::decided(
             head.ratings,
             &state[at..at + StateRecord::SIZE],
             &input[from..from + InputRecord::SIZE],
         );
+        wants[i] = turn.wanted_watts(head.ratings);
+        turns[i] = turn;
         i += 1;
     }
-    turns
-}
-
-pub(crate) fn level_among(ratings: Ratings, turns: [Turn; PLACES], limit: u32) -> u32
-    ensures { λ r. ⌜ r ≡ levelOf places (λ k. wantedWatts ratings (getD turns k emptyTurn .lead)) limit ⌝ }
-{
-    let wants = [
-        turns[0].wanted_watts(ratings),
-        turns[1].wanted_watts(ratings),
-        turns[2].wanted_watts(ratings),
-        turns[3].wanted_watts(ratings),
-    ];
-    level(wants, limit)
-}
-
-pub(crate) fn command_all(ratings: Ratings, level: u32, turns: [Turn; PLACES]) -> [Turn; PLACES]
-    ensures { λ r. ⌜ ((k : ℕ) → k < places → getD r k emptyTurn ≡ commandedTurn ratings level (getD turns k emptyTurn)) ⌝ }
-{
-    [
-        turns[0].command(ratings, level),
-        turns[1].command(ratings, level),
-        turns[2].command(ratings, level),
-        turns[3].command(ratings, level),
-    ]
+    Decided { turns, wants }
 }

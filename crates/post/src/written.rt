@@ -2,6 +2,7 @@
 use super::head::Head;
 use super::turns::Turn;
 use bytes::copy;
+use lead::Lead;
 use lead_records::OutputRecord;
 use lead_records::StateRecord;
 use sharing::PLACES;
@@ -15,46 +16,57 @@ ghost use Rattle.lead_records.specs.States.{encode};
 ghost use Rattle.post.specs.Parts.{joined};
 ghost use Rattle.post.specs.Heads.{headSize, stateLength, outputLength};
 ghost use Rattle.post.specs.Rules.{postBytes};
-ghost use Rattle.post.specs.Turns.{emptyTurn, turnShown};
+ghost use Rattle.post.specs.Turns.{emptyTurn, commandedTurn, turnShown};
 
-// The head stays as it is.
-pub(crate) fn write_states(leads: u8, turns: [Turn; PLACES], state: &mut [u8])
-    requires { ⌜ (leads ≤ places) × (length (now state) ≡ stateLength leads) ⌝ }
+// The turns' leads with their commands at the level: each one's records of state and output. The state's head stays as it is.
+pub(crate) fn write_leads(
+    head: Head,
+    level: u32,
+    turns: [Turn; PLACES],
+    state: &mut [u8],
+    output: &mut [u8],
+)
+    requires { ⌜ (head .leads ≤ places) × (length (now state) ≡ stateLength (head .leads)) × (length (now output) ≡ outputLength (head .leads)) ⌝ }
     ensures { λ _. ⌜ now (state .exit) ≡ take headSize (now (state .entry))
-        ++ joined leads (λ k. encode (getD turns k emptyTurn .lead)) ⌝ }
-{
-    let leads = leads as usize;
-    let mut i = 0;
-    while i < leads {
-        let at = Head::SIZE + StateRecord::SIZE * i;
-        let turn = turns[i];
-        let kept = StateRecord::bytes(turn.lead);
-        copy(&kept, &mut state[at..at + StateRecord::SIZE]);
-        i += 1;
-    }
-}
-
-pub(crate) fn write_outputs(head: Head, turns: [Turn; PLACES], output: &mut [u8])
-    requires { ⌜ (head .leads ≤ places) × (length (now output) ≡ outputLength (head .leads)) ⌝ }
-    ensures { λ _. ⌜ now (output .exit) ≡ joined (head .leads) (λ k. turnShown (head .ratings) (getD turns k emptyTurn)) ⌝ }
+        ++ joined (head .leads) (λ k. encode (commandedTurn (head .ratings) level (getD turns k emptyTurn) .lead)) ⌝ }
+    ensures { λ _. ⌜ now (output .exit)
+        ≡ joined (head .leads) (λ k. turnShown (head .ratings) (commandedTurn (head .ratings) level (getD turns k emptyTurn))) ⌝ }
 {
     let leads = head.leads as usize;
     let mut i = 0;
     while i < leads {
-        let at = OutputRecord::SIZE * i;
-        let turn = turns[i];
+        let at = Head::SIZE + StateRecord::SIZE * i;
+        let to = OutputRecord::SIZE * i;
+        let turn = turns[i].command(head.ratings, level);
         let reading = turn.reading;
+        let kept = StateRecord::bytes(turn.lead);
         let shown = OutputRecord::bytes(head.ratings, turn.lock, reading, turn.lead);
-        copy(&shown, &mut output[at..at + OutputRecord::SIZE]);
+        copy(&kept, &mut state[at..at + StateRecord::SIZE]);
+        copy(&shown, &mut output[to..to + OutputRecord::SIZE]);
+        i += 1;
+    }
+}
+
+// A fresh lead's record at each place behind the head.
+fn write_fresh_leads(leads: u8, state: &mut [u8])
+    requires { ⌜ length (now state) ≡ stateLength leads ⌝ }
+    ensures { λ _. ⌜ now (state .exit) ≡ take headSize (now (state .entry)) ++ joined leads (λ k. encode fresh) ⌝ }
+{
+    let leads = leads as usize;
+    let kept = StateRecord::bytes(Lead::fresh());
+    let mut i = 0;
+    while i < leads {
+        let at = Head::SIZE + StateRecord::SIZE * i;
+        copy(&kept, &mut state[at..at + StateRecord::SIZE]);
         i += 1;
     }
 }
 
 // As setup leaves the state.
 pub(crate) fn write_fresh(head: Head, state: &mut [u8])
-    requires { ⌜ (head .leads ≤ places) × (length (now state) ≡ stateLength (head .leads)) ⌝ }
+    requires { ⌜ length (now state) ≡ stateLength (head .leads) ⌝ }
     ensures { λ _. ⌜ now (state .exit) ≡ postBytes head (λ k. fresh) ⌝ }
 {
     copy(&head.bytes(), state);
-    write_states(head.leads, [Turn::empty(); PLACES], state);
+    write_fresh_leads(head.leads, state);
 }

@@ -1,13 +1,13 @@
 -- The laws of the level. They hold however it is found. Assumes nothing.
-use mathlib.Core.Path.{_≡_, refl, ap, _∙_}
+use mathlib.Core.Path.{_≡_, refl, sym, ap, subst, _∙_}
 use mathlib.Core.Logic.{_⊎_, inl, inr}
 use Prim.Native.Nat.{ℕ, zero, suc, _+_, _-_, _*_, _/_, _≤_, _<_, min}
-use native.Mathlib.Nat.{le-antisymm, le-trans, lt-of-not-le, not-le-of-lt, div-mul-le-self, div-le-self}
+use native.Mathlib.Nat.{le-antisymm, le-trans, lt-of-not-le, not-le-of-lt, div-mul-le-self, mul-div-le, lt-div-mul-add, div-le-self}
 use native.Mathlib.Numerals.{unary-clauses}
 use native.Mathlib.Omega.{arith}
 use lib.Dec.{leb}
 use borrow.Author.Tests.{leb-true, le-leb}
-use Rattle.sharing.specs.Level.{sum, given, fits, levelOf, oneIfAny, equalPart}
+use Rattle.sharing.specs.Level.{sum, given, fits, levelOf, oneIfAny, wantingAt, equalPart}
 use Rattle.sharing.proofs.Sums.{sum-le, sum-times, largest-within, largest-passes, largest-most, largest-same}
 
 pub given-is : (n : ℕ) (wants : ℕ → ℕ) (level : ℕ) → given n wants level ≡ sum n (λ k. min (wants k) level)
@@ -19,6 +19,45 @@ module _ (n : ℕ) (wants : ℕ → ℕ) where
   given-grows : (i j : ℕ) → i ≤ j → given n wants i ≤ given n wants j
   unfolding given
   given-grows i j h = sum-le n (λ k. min (wants k) i) (λ k. min (wants k) j) (λ k x. omega arith)
+
+pub one-any : (x : ℕ) → 0 < x → oneIfAny x ≡ 1
+one-any zero h = absurd (omega arith)
+one-any (suc x) h = refl
+
+pub one-none : (x : ℕ) → x ≡ 0 → oneIfAny x ≡ 0
+one-none zero e = refl
+one-none (suc x) e = absurd (omega arith)
+
+-- what is given out when the level rises: as much more for each want above it, or less
+pub given-above : (n : ℕ) (wants : ℕ → ℕ) (level more : ℕ) → given n wants (level + more) ≤ given n wants level + wantingAt n wants level * more
+unfolding given wantingAt
+given-above zero wants level more = omega arith
+given-above (suc n) wants level more = omega (arith, given-above n wants level more, one (wants n - level) refl)
+  where
+    one : (above : ℕ) → wants n - level ≡ above → min (wants n) (level + more) ≤ min (wants n) level + oneIfAny above * more
+    one zero e = omega arith
+    one (suc above) e = omega arith
+
+-- exactly one more for each, where it rises by 1
+pub given-next : (n : ℕ) (wants : ℕ → ℕ) (level : ℕ) → given n wants (level + 1) ≡ given n wants level + wantingAt n wants level
+unfolding given wantingAt
+given-next zero wants level = refl
+given-next (suc n) wants level = omega (arith, given-next n wants level, one (wants n - level) refl)
+  where
+    one : (above : ℕ) → wants n - level ≡ above → min (wants n) (level + 1) ≡ min (wants n) level + oneIfAny above
+    one zero e = omega arith
+    one (suc above) e = omega arith
+
+-- whoever wants more than a level gets all of it
+given-least : (n : ℕ) (wants : ℕ → ℕ) (level : ℕ) → 0 < wantingAt n wants level → level ≤ given n wants level
+unfolding given wantingAt
+given-least zero wants level h = absurd (omega arith)
+given-least (suc n) wants level h = go (wants n - level) refl h (λ x. given-least n wants level x)
+  where
+    go : (above : ℕ) → wants n - level ≡ above → 0 < wantingAt n wants level + oneIfAny above
+        → (0 < wantingAt n wants level → level ≤ given n wants level) → level ≤ given n wants level + min (wants n) level
+    go zero e x fewer = omega (arith, fewer (omega arith))
+    go (suc above) e x fewer = omega arith
 
 -- what is given out at a level is at most the level for each want above 0
 given-at-most : (n : ℕ) (wants : ℕ → ℕ) (level : ℕ) → given n wants level ≤ sum n (λ k. oneIfAny (wants k)) * level
@@ -62,6 +101,44 @@ module _ (n : ℕ) (wants : ℕ → ℕ) (limit : ℕ) where
           (let y : levelOf n wants limit < l + 1
           = lt-of-not-le (λ z. not-le-of-lt x (le-trans (given-grows n wants (l + 1) (levelOf n wants limit) z) level-fits)) in
           omega arith)
+
+  -- where the wants do not all fit, somebody wants more than a level that fits
+  pub level-wanted : (l : ℕ) → l ≤ limit → given n wants l ≤ limit → limit < given n wants limit → 0 < wantingAt n wants l
+  level-wanted l h t more = go (wantingAt n wants l) refl
+    where
+      whole : l + (limit - l) ≡ limit
+      whole = omega arith
+
+      above : given n wants limit ≤ given n wants l + wantingAt n wants l * (limit - l)
+      above = subst (λ (m : ℕ). given n wants m ≤ given n wants l + wantingAt n wants l * (limit - l)) whole (given-above n wants l (limit - l))
+
+      go : (takers : ℕ) → wantingAt n wants l ≡ takers → 0 < takers
+      go zero e = absurd (omega (arith, above, ap (λ (m : ℕ). m * (limit - l)) e))
+      go (suc takers) e = omega arith
+
+  -- a round, which gives an equal part of what is left to each who wants more
+  module _ (l takers part : ℕ) (t : given n wants l ≤ limit) (count : takers ≡ wantingAt n wants l) (some : 0 < takers)
+      (e : part ≡ (limit - given n wants l) / takers) where
+    abbrev left : ℕ
+    left = limit - given n wants l
+
+    -- it stays within the limit and fits
+    pub level-rises : (l + part ≤ limit) × (given n wants (l + part) ≤ limit)
+    level-rises = (
+      omega (arith, given-least n wants l (omega arith), div-le-self left takers),
+      omega (arith, above, spent),
+    )
+      where
+        above : given n wants (l + part) ≤ given n wants l + takers * part
+        above = rw count (given-above n wants l part)
+
+        spent : takers * part ≤ left
+        spent = rw e (mul-div-le left takers)
+
+    -- where it gives nothing it was the last
+    pub level-done : l ≤ limit → part ≡ 0 → l ≡ levelOf n wants limit
+    level-done h z =
+        level-is l h t (inr (omega (arith, given-next n wants l, lt-div-mul-add {a = left} some, ap (λ (m : ℕ). m * takers) (sym e ∙ z))))
 
   -- nobody is held below an equal part
   pub level-shares : equalPart n wants limit ≤ levelOf n wants limit

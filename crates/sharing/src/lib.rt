@@ -1,7 +1,7 @@
 // Sharing a power limit out: document 01, 'Dividing the allowance'. Wants and the limit are in watts. Rests on nothing.
 ghost use mathlib.Core.Path.{_≡_};
-ghost use Prim.Native.Nat.{_<_, min};
-ghost use Rattle.sharing.specs.Level.{places, wantAt, given, levelOf};
+ghost use Prim.Native.Nat.{_-_, _/_, _≤_, _<_, min};
+ghost use Rattle.sharing.specs.Level.{places, wantAt, given, levelOf, oneIfAny, wantingAt};
 
 // As many as may want power at once; a place that nobody has wants 0.
 pub const PLACES: usize = 4;
@@ -28,19 +28,48 @@ fn given_at(wants: [u32; PLACES], level: u32) -> u64
         + widened(lesser(wants[3], level))
 }
 
-// Halves the range in which the level lies: `low` fits, and nothing from `high` + 1 to the limit does.
+// 1 for a want above the level.
+fn one_above(want: u32, level: u32) -> u32
+    ensures { λ r. ⌜ r ≡ oneIfAny (want - level) ⌝ }
+    ensures { λ r. ⌜ r ≤ 1 ⌝ }
+{
+    if level < want { 1 } else { 0 }
+}
+
+// How many want more than the level gives.
+fn wanting(wants: [u32; PLACES], level: u32) -> u32
+    ensures { λ r. ⌜ r ≡ wantingAt places (wantAt wants) level ⌝ }
+{
+    one_above(wants[0], level)
+        + one_above(wants[1], level)
+        + one_above(wants[2], level)
+        + one_above(wants[3], level)
+}
+
+// What is left of the limit at that level, divided equally among the takers.
+fn part_of_rest(wants: [u32; PLACES], level: u32, limit: u32, takers: u32) -> u32
+    requires { ⌜ (given places (wantAt wants) level ≤ limit) × (0 < takers) ⌝ }
+    ensures { λ r. ⌜ r ≡ (limit - given places (wantAt wants) level) / takers ⌝ }
+{
+    let left = widened(limit) - given_at(wants, level);
+    (left as u32) / takers
+}
+
+// The limit, if all wants fit. Else raises the level round by round: what is left of the limit is divided equally among those who want more.
+// A round meets somebody's want or is the last but one, so there are few of them.
 pub fn level(wants: [u32; PLACES], limit: u32) -> u32
     ensures { λ r. ⌜ r ≡ levelOf places (wantAt wants) limit ⌝ }
 {
-    let mut low: u32 = 0;
-    let mut high = limit;
-    while low < high {
-        let middle = high - (high - low) / 2;
-        if given_at(wants, middle) <= widened(limit) {
-            low = middle;
-        } else {
-            high = middle - 1;
-        }
+    if given_at(wants, limit) <= widened(limit) {
+        return limit;
     }
-    low
+    let mut level: u32 = 0;
+    while level < limit {
+        let part = part_of_rest(wants, level, limit, wanting(wants, level));
+        if part == 0 {
+            return level;
+        }
+        level += part;
+    }
+    level
 }

@@ -32,10 +32,8 @@ write-fresh-requires c κs =
     let k = c .before .before in
     let a = k .before .before .args in
     let h = headFrom (a .leads) (a .rated-volts) (a .rated-amperes) (a .resistance) in
-    let room = length (now (a .state)) in (
-      setup-head h room (k .setup-refusal .ensures) (c .before .if1 .taken) .few-leads,
-      setup-room h room (k .setup-refusal .ensures) (c .before .if1 .taken),
-    )
+    let room = length (now (a .state)) in
+    setup-room h room (k .setup-refusal .ensures) (c .before .if1 .taken)
 
 returns : tie.Need-returns
 returns c =

@@ -1,7 +1,7 @@
--- `lead::questions::first_no` meets its contract. The loop's invariant: the first no of the questions not yet passed is the first of all. Assumes nothing.
+-- `lead::questions::first_no` meets its contract. The loop's invariant: the verdict is the first no of the questions passed. Assumes nothing.
 use borrow.Author.Needs.{needs}
-use mathlib.Core.Path.{_≡_, refl, sym, _∙_}
-use Prim.Native.Nat.{_≤_, _-_}
+use mathlib.Core.Path.{_≡_, sym, ap, _∙_}
+use Prim.Native.Nat.{ℕ, _-_, _≤_}
 use native.Mathlib.Omega.{arith}
 use lib.ListN.{length, drop}
 use Rattle.lead.specs.Questions.{firstNo}
@@ -10,41 +10,37 @@ use Rattle.lead.proofs.questions.first_no.Statement.{statement}
 use Rattle.lead.proofs.questions.first_no.Tie as tie
 
 abbrev Inv-loop : tie.InvT-loop
-Inv-loop phase rows i₀ i = (i ≤ 19) × (firstNo phase (drop i rows) ≡ firstNo phase rows)
+Inv-loop phase rows verdict₀ i₀ verdict i = (i ≤ 19) × (verdict ≡ firstNo phase (drop i rows))
 
 abbrev μ-loop : tie.MeasureT-loop
-μ-loop phase rows i₀ i = 19 - i
+μ-loop phase rows verdict₀ i₀ verdict i = i
 
 loop-holds : tie.Need-loop-holds Inv-loop μ-loop
-loop-holds c = (omega arith, refl)
-
-returns : tie.Need-returns Inv-loop μ-loop
-returns c =
-    let k = c .before .before .before .before .before in
-    let rows = k .before .args .t2 in
-    let long : length rows ≡ 19 = search needs in
-    c .stop .ensures ∙ sym (first-here (k .before .args .phase) rows (k .loop .i) _ (omega arith) (sym (c .before .before .is-no .ensures) ∙ c .before .if1 .taken)) ∙ k .loop .inv .1
-
-add-i : tie.Need-add-i Inv-loop μ-loop
-add-i c = omega arith
-
-loop-less : tie.Need-loop-less Inv-loop μ-loop
-loop-less c = omega arith
+loop-holds c =
+    let long : length (c .args .t2) ≡ 19 = search needs in
+    (omega arith, sym (first-none (c .args .phase) (c .args .t2) 19 (omega arith)))
 
 loop-again : tie.Need-loop-again Inv-loop μ-loop
 loop-again c =
+    let k = c .before .before .before .before .before in
+    let rows = k .before .args .t2 in
+    let long : length rows ≡ 19 = search needs in
+    (omega arith, c .stop .ensures ∙ sym (first-here (k .before .args .phase) rows (k .loop .i - 1) _ (omega arith) (sym (c .before .before .is-no .ensures) ∙ c .before .if1 .taken)))
+
+loop-again-2 : tie.Need-loop-again-2 Inv-loop μ-loop
+loop-again-2 c =
     let k = c .before .before .before .before in
     let rows = k .before .args .t2 in
     let long : length rows ≡ 19 = search needs in
-    (omega arith, first-later (k .before .args .phase) rows (k .loop .i) _ (omega arith) (sym (c .before .is-no .ensures) ∙ c .if1 .left) ∙ k .loop .inv .1)
+    (omega arith, k .loop .inv .1 ∙ first-later (k .before .args .phase) rows (k .loop .i - 1) _ (k .loop .i) (omega arith) (omega arith) (sym (c .before .is-no .ensures) ∙ c .if1 .left))
 
-returns-2 : tie.Need-returns-2 Inv-loop μ-loop
-returns-2 c =
-    let rows = c .before .before .args .t2 in
-    let long : length rows ≡ 19 = search needs in
-    sym (first-none (c .before .before .args .phase) rows (c .before .loop .i) (omega arith)) ∙ c .before .loop .inv .1
+returns : tie.Need-returns Inv-loop μ-loop
+returns c =
+    let k = c .before in
+    let ended : k .loop .i ≡ 0 = omega arith in
+    k .loop .inv .1 ∙ ap (λ (i : ℕ). firstNo (k .before .args .phase) (drop i (k .before .args .t2))) ended
 
 pub first-no-spec : {M : Type 1} → statement M
 first-no-spec =
     tie.close
-    (tie.spec Inv-loop μ-loop loop-holds (search needs) (search needs) (search needs) (search needs) returns add-i loop-less loop-again returns-2)
+    (tie.spec Inv-loop μ-loop loop-holds (search needs) (search needs) (search needs) (search needs) (search needs) (search needs) loop-again (search needs) loop-again-2 returns)

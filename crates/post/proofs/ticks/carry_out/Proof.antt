@@ -1,13 +1,9 @@
 -- `post::ticks::carry_out` meets its contract. By what nothing refused says, and the table of turns as the post after the tick. Assumes nothing.
 use borrow.Author.Needs.{needs}
 use mathlib.Core.Path.{refl, ap, _∙_}
-use Prim.Native.Nat.{ℕ}
 use native.Mathlib.Omega.{arith}
-use lib.ListN.{getD}
 use denote.Ref.{now}
-use Rattle.sharing.specs.Level.{places, levelOf}
-use Rattle.lead.specs.Power.{wantedWatts}
-use Rattle.post.specs.Turns.{emptyTurn}
+use Rattle.sharing.specs.Level.{places, wantAt, levelOf}
 use Rattle.post.proofs.Asked.{tick-taken}
 use Rattle.post.proofs.Divided.{state-after, output-after}
 use Rattle.post.proofs.ticks.carry_out.Statement.{statement}
@@ -29,42 +25,32 @@ decide-all-requires c κs =
     let taken = tick-taken (c .before .before .read .ensures) (k .pre) in
     ((taken .head .few-leads, taken .head .allowed), (taken .whole, taken .given))
 
-write-states-requires : tie.Need-write-states-requires
-write-states-requires c κs =
-    let d = c .before .before .before .before .before .before in
+write-leads-requires : tie.Need-write-leads-requires
+write-leads-requires c κs =
+    let d = c .before .before .before .before .before .before .before .before in
     let k = d .before .before .before .before .before in
     let taken = tick-taken (d .read .ensures) (k .pre) in
-    (taken .head .few-leads, taken .whole)
-
-write-outputs-requires : tie.Need-write-outputs-requires
-write-outputs-requires c κs =
-    let d = c .before .before .before .before .before .before .before .before .before .before in
-    let k = d .before .before .before .before .before in
-    let taken = tick-taken (d .read .ensures) (k .pre) in
-    (taken .head .few-leads, taken .shown)
+    (taken .head .few-leads, taken .whole, taken .shown)
 
 returns : tie.Need-returns
 returns c =
-    let written = c .before .before .before .before .before .before in
-    let j = written .before .before in
-    let d = j .before .before .before .before .before in
+    let w = c .before .before .before .before in
+    let l = w .before .before .before in
+    let t = l .before .before .before in
+    let d = t .before .before .before in
     let k = d .before .before .before .before .before in
     let state = now (k .args .state) in
     let input = now (k .args .input) in
     let few = tick-taken (d .read .ensures) (k .pre) .head .few-leads in
-    let turns = j .before .before .decide-all .result in
-    let next = j .command-all .result in
-    let wants : ℕ → ℕ = λ n. wantedWatts (d .read .result .ratings) (getD turns n emptyTurn .lead) in
-    let level = j .before .level-among .result in
-    let decided = j .before .before .decide-all .ensures in
-    let levelled = j .before .level-among .ensures ∙ ap (levelOf places wants) (j .before .before .before .before .u32-at .ensures) in
-    let powered = j .command-all .ensures in (
-      written .write-states .ensures ∙ state-after state input (d .read .ensures) few turns next level decided levelled powered,
-      c .before .before .write-outputs .ensures ∙ output-after state input (d .read .ensures) few turns next level decided levelled powered,
+    let decided = t .decide-all .result in
+    let levelled = l .level .ensures ∙ ap (levelOf places (wantAt (decided .wants))) (t .before .before .u32-at .ensures) in (
+      w .write-leads .ensures .0 ∙ state-after state input (d .read .ensures) few (decided .turns) (decided .wants) (l .level .result)
+          (t .decide-all .ensures .0) (t .decide-all .ensures .1) levelled,
+      w .write-leads .ensures .1 ∙ output-after state input (d .read .ensures) few (decided .turns) (decided .wants) (l .level .result)
+          (t .decide-all .ensures .0) (t .decide-all .ensures .1) levelled,
     )
 
 pub carry-out-spec : {M : Type 1} → statement M
 carry-out-spec =
     tie.close
-    (tie.spec read-requires u32-at-requires decide-all-requires (search needs) (search needs) write-states-requires write-outputs-requires
-    (search needs) (search needs) returns)
+    (tie.spec read-requires u32-at-requires decide-all-requires (search needs) write-leads-requires (search needs) (search needs) returns)

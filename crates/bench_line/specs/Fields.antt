@@ -1,0 +1,24 @@
+-- Where the first field of a line ends, for the functions that go through a line. Definitions only.
+use mathlib.Core.Bool.{cond}
+use mathlib.Core.List.{List, [], _∷_}
+use Prim.Native.Nat.{ℕ, suc, _+_}
+use lib.Dec.{ltb, eqb}
+use lib.ListN.{length, take}
+use Rattle.bench_line.specs.Digits.{decimalOf}
+use Rattle.bench_line.specs.declared.numbers.Number.{Number}
+use Rattle.bench_line.specs.declared.numbers.Number.the-variants.{Value, Not}
+use Rattle.bench_line.specs.declared.fields.Field.{Field}
+use Rattle.bench_line.specs.declared.fields.Field.the-variants as field
+
+-- how many characters stand before the first tab
+abbrev pub firstTab : List ℕ → ℕ
+firstTab [] = 0
+firstTab (c ∷ s) = cond (eqb c 9) 0 (suc (firstTab s))
+
+-- a decimal field that a tab ends, and where the fields behind it begin
+abbrev pub fieldAt : Number → ℕ → Field
+fieldAt (Value n) end = field.At n (end + 1)
+fieldAt Not end = field.Not
+
+unfoldable pub numberField : List ℕ → Field
+numberField s = cond (ltb (firstTab s) (length s)) (fieldAt (decimalOf (take (firstTab s) s)) (firstTab s)) field.Not

@@ -1,0 +1,102 @@
+// What a line says.
+use super::fields::Field;
+use super::fields::first_tab;
+use super::fields::is_same;
+use super::fields::number_field;
+use super::numbers::Number;
+use super::numbers::are_pairs;
+use super::numbers::bits;
+use super::numbers::write_bytes;
+ghost use mathlib.Core.Path.{_≡_};
+ghost use Rattle.bench_line.specs.Lines.{fieldsOf, afterAmperes, afterVolts, afterLeads, setupLine, Parsed, tickLine, parsedOf};
+
+// The most characters of a line, without its line feed.
+pub const LONGEST: usize = 1000;
+
+pub enum Line {
+    // The resistance as its float's bits.
+    Setup {
+        leads: u32,
+        volts: u32,
+        amperes: u32,
+        resistance: u32,
+    },
+    // How many bytes of input the line has.
+    Tick(usize),
+    // A line to which the answer is `?`.
+    Other,
+}
+
+fn after_amperes(fields: &[u8], leads: u32, volts: u32, amperes: u32) -> Line
+    ensures { λ r. ⌜ r ≡ afterAmperes leads volts amperes (fieldsOf (now (fields .entry))) ⌝ }
+{
+    let Number::Value(resistance) = bits(fields) else {
+        return Line::Other;
+    };
+    Line::Setup {
+        leads,
+        volts,
+        amperes,
+        resistance,
+    }
+}
+
+fn after_volts(fields: &[u8], leads: u32, volts: u32) -> Line
+    ensures { λ r. ⌜ r ≡ afterVolts leads volts (fieldsOf (now (fields .entry))) ⌝ }
+{
+    let Field::At { value, next } = number_field(fields) else {
+        return Line::Other;
+    };
+    after_amperes(&fields[next..], leads, volts, value)
+}
+
+fn after_leads(fields: &[u8], leads: u32) -> Line
+    ensures { λ r. ⌜ r ≡ afterLeads leads (fieldsOf (now (fields .entry))) ⌝ }
+{
+    let Field::At { value, next } = number_field(fields) else {
+        return Line::Other;
+    };
+    after_volts(&fields[next..], leads, value)
+}
+
+fn setup_line(fields: &[u8]) -> Line
+    ensures { λ r. ⌜ r ≡ setupLine (fieldsOf (now (fields .entry))) ⌝ }
+{
+    let Field::At { value, next } = number_field(fields) else {
+        return Line::Other;
+    };
+    after_leads(&fields[next..], value)
+}
+
+fn tick_line(fields: &[u8], input: &mut [u8]) -> Line
+    ensures { λ r. ⌜ _≡_ {A = Parsed} (record { line = r; input = now (input .exit) })
+        (tickLine (fieldsOf (now (fields .entry))) (now (input .entry))) ⌝ }
+{
+    if !are_pairs(fields) {
+        return Line::Other;
+    }
+    write_bytes(fields, input);
+    Line::Tick(fields.len() / 2)
+}
+
+// A line without its line feed. A tick's bytes are in the buffer then, missing ones 0; any other line leaves it as it was.
+pub fn parse(line: &[u8], input: &mut [u8]) -> Line
+    ensures { λ r. ⌜ _≡_ {A = Parsed} (record { line = r; input = now (input .exit) })
+        (parsedOf (now (line .entry)) (now (input .entry))) ⌝ }
+{
+    if LONGEST < line.len() {
+        return Line::Other;
+    }
+    let end = first_tab(line);
+    if end == line.len() {
+        return Line::Other;
+    }
+    let next = end + 1;
+    if is_same(&line[..end], b"tick") {
+        return tick_line(&line[next..], input);
+    }
+    if is_same(&line[..end], b"setup") {
+        return setup_line(&line[next..]);
+    }
+    Line::Other
+}

@@ -1,0 +1,12 @@
+-- `sharing::part_of_rest` meets its contract. Assumes nothing.
+use borrow.Author.Needs.{needs}
+use mathlib.Core.Path.{ap₂}
+use Prim.Native.Nat.{ℕ, _-_, _/_}
+use Rattle.sharing.proofs.part_of_rest.Statement.{statement}
+use Rattle.sharing.proofs.part_of_rest.Tie as tie
+
+returns : tie.Need-returns
+returns c = rw (c .before .widened .ensures .0, c .given-at .ensures)
+
+pub part-of-rest-spec : {M : Type 1} → statement M
+part-of-rest-spec = tie.close (tie.spec (search needs) (search needs) (search needs) (search needs) (search needs) returns)

@@ -1,0 +1,258 @@
+/*
+ * The control software of a DC quick charger (a post) with one to four CHAdeMO cables (leads),
+ * as the C host in the post calls it. Link with libpost.a.
+ *
+ * Call setup() once, then tick() every tenth of a second: it takes what contacts, meter and cars
+ * say, and gives what each lead is to do. Everything passes through three byte buffers of the
+ * host: state, input and output. The library has no memory of its own, so that a host may keep
+ * several posts, each with its own state, and tick them in threads of their own.
+ *
+ * Comments quote document 01, the product's scope, where its word is another one: "leak trip".
+ * Bytes count from 0, bits from 0 as the lowest, leads and frame records here from 0 too. Numbers
+ * of several bytes are little-endian, on every machine. H' marks hexadecimal.
+ *
+ * What is left to the caller, as a pointer and a length cannot be checked:
+ * - A pointer is valid for its whole length until the call returns, those to state and output for
+ *   writing. It is never NULL, not even with length 0: the compiled code may assume so. For an
+ *   empty buffer pass any other pointer, to one byte of the host's own for example.
+ * - The buffers of one call do not overlap.
+ * - No other thread touches them during the call.
+ * - Between the calls the state belongs to the library: keep it and hand it back byte for byte.
+ *   Looking at it is harmless.
+ *
+ * Everything else is checked: any numbers, any lengths and any bytes are carried out or refused
+ * with the first number below that fits. A refused call changes no byte of state or output.
+ */
+#ifndef POST_H_INCLUDED
+#define POST_H_INCLUDED
+
+#include <stddef.h>
+#include <stdint.h>
+
+#ifdef __cplusplus
+extern "C" {
+#endif
+
+/*
+ * Begins a post: writes the state of a post with this many leads, all of them idle. state_length
+ * is POST_STATE_LENGTH(leads). resistance_bits are the 32 bits of a float, the resistance of the
+ * cable in ohms, by which volts at the connector differ from volts at the meter: 0x3D800000 is
+ * 0.0625. Returns POST_DONE or a refusal from POST_REFUSED_LEADS to POST_REFUSED_STATE_LENGTH.
+ */
+uint32_t setup(uint32_t leads, uint32_t rated_volts, uint32_t rated_amperes,
+               uint32_t resistance_bits, uint8_t *state, size_t state_length);
+
+/*
+ * Decides one tick, a tenth of a second, for all leads: changes the state and writes the output.
+ * The number of leads is the state's; the lengths are POST_STATE_LENGTH, POST_INPUT_LENGTH and
+ * POST_OUTPUT_LENGTH of it. Returns POST_DONE or a refusal from POST_REFUSED_STATE on; after a
+ * refusal the output holds what it held before, and the post has not moved.
+ */
+uint32_t tick(uint8_t *state, size_t state_length, const uint8_t *input, size_t input_length,
+              uint8_t *output, size_t output_length);
+
+#ifdef __cplusplus
+}
+#endif
+
+/* What the calls return. */
+#define POST_DONE                     0
+#define POST_REFUSED_LEADS            1 /* setup: not POST_LEADS_MIN to POST_LEADS_MAX leads */
+#define POST_REFUSED_RATED_VOLTS      2 /* setup: not POST_RATED_VOLTS_MIN to _MAX */
+#define POST_REFUSED_RATED_AMPERES    3 /* setup: not POST_RATED_AMPERES_MIN to _MAX */
+#define POST_REFUSED_CABLE_RESISTANCE 4 /* setup: not a float from 0 to 1 */
+#define POST_REFUSED_STATE_LENGTH     5 /* setup: not POST_STATE_LENGTH(leads) bytes */
+#define POST_REFUSED_STATE            6 /* tick: not a good state, or of another length */
+#define POST_REFUSED_INPUT_LENGTH     7 /* tick: not POST_INPUT_LENGTH(leads) bytes */
+#define POST_REFUSED_OUTPUT_LENGTH    8 /* tick: not POST_OUTPUT_LENGTH(leads) bytes */
+#define POST_REFUSED_INPUT            9 /* tick: a spare bit or byte not 0, too many frames */
+
+/* What setup takes. */
+#define POST_LEADS_MIN         1
+#define POST_LEADS_MAX         4
+#define POST_RATED_VOLTS_MIN   50
+#define POST_RATED_VOLTS_MAX   500
+#define POST_RATED_AMPERES_MIN 1
+#define POST_RATED_AMPERES_MAX 200
+
+/* Lengths in bytes. */
+#define POST_HEAD_LENGTH         8   /* of the state, before its lead records */
+#define POST_LEAD_LENGTH         32  /* one lead record of the state */
+#define POST_POWER_LIMIT_LENGTH  4   /* of the input, before its lead records */
+#define POST_INPUT_LEAD_LENGTH   104 /* one lead record of the input */
+#define POST_FRAME_RECORDS       8   /* frame records in one lead record of the input */
+#define POST_FRAME_RECORD_LENGTH 11
+#define POST_FRAME_DATA_LENGTH   8  /* data of a frame; with another length it is ignored */
+#define POST_OUTPUT_LEAD_LENGTH  24 /* one lead record of the output */
+
+#define POST_STATE_LENGTH(leads) (POST_HEAD_LENGTH + POST_LEAD_LENGTH * (size_t)(leads))
+#define POST_INPUT_LENGTH(leads)                                                                   \
+    (POST_POWER_LIMIT_LENGTH + POST_INPUT_LEAD_LENGTH * (size_t)(leads))
+#define POST_OUTPUT_LENGTH(leads) (POST_OUTPUT_LEAD_LENGTH * (size_t)(leads))
+
+/* Where the record of a lead begins, the first lead being 0: after those before it. */
+#define POST_STATE_LEAD(lead)  POST_STATE_LENGTH(lead)
+#define POST_INPUT_LEAD(lead)  POST_INPUT_LENGTH(lead)
+#define POST_OUTPUT_LEAD(lead) POST_OUTPUT_LENGTH(lead)
+
+/* State: its head. */
+#define POST_HEAD_LEADS            0
+#define POST_HEAD_RATED_AMPERES    1
+#define POST_HEAD_RATED_VOLTS      2 /* 2 bytes */
+#define POST_HEAD_CABLE_RESISTANCE 4 /* float */
+
+/* State: places in the record of a lead. */
+#define POST_LEAD_PHASE           0
+#define POST_LEAD_REASON          1
+#define POST_LEAD_COMMAND         2  /* amperes */
+#define POST_LEAD_REQUEST         3  /* amperes */
+#define POST_LEAD_FAULTS          4  /* that byte of H'102, whole */
+#define POST_LEAD_STATUS          5  /* that byte of H'102, whole */
+#define POST_LEAD_SILENCE         6  /* ticks since the last H'102, up to 255 */
+#define POST_LEAD_SEEN            7  /* POST_SEEN_ bits */
+#define POST_LEAD_THRESHOLD       8  /* 2 bytes, volts */
+#define POST_LEAD_MAXIMUM_VOLTAGE 10 /* 2 bytes, of the battery */
+#define POST_LEAD_TARGET_VOLTAGE  12 /* 2 bytes */
+#define POST_LEAD_TIME_TENS       14 /* that byte of H'101 */
+#define POST_LEAD_TIME_MINUTES    15 /* that byte of H'101 */
+#define POST_LEAD_AGE             16 /* 4 bytes, ticks that it has stayed in its phase */
+#define POST_LEAD_SPARE           20 /* from here to the end 0 */
+
+/* Which frames of the car the lead has seen since its start. */
+#define POST_SEEN_H100 0x01
+#define POST_SEEN_H101 0x02
+#define POST_SEEN_H102 0x04
+
+/* Input: what the whole post may give out in this tick, in watts ("allowance"), 4 bytes. */
+#define POST_INPUT_POWER_LIMIT 0
+
+/* Input: places in the record of a lead. */
+#define POST_INPUT_CONTACTS    0  /* POST_CONTACT_ bits */
+#define POST_INPUT_PRESENT     1  /* POST_PRESENT_ bits */
+#define POST_INPUT_FRAME_COUNT 2  /* frame records filled, 0 to POST_FRAME_RECORDS */
+#define POST_INPUT_SPARE       3  /* 0 */
+#define POST_INPUT_VOLTS       4  /* float, at the meter */
+#define POST_INPUT_AMPERES     8  /* float */
+#define POST_INPUT_INSULATION  12 /* float, ohms ("resistance") */
+#define POST_INPUT_FRAMES      16 /* the frame records */
+
+/* Where a frame record begins in the record of a lead, the first being 0. Those past the count
+ * are ignored. */
+#define POST_INPUT_FRAME(record) (POST_INPUT_FRAMES + POST_FRAME_RECORD_LENGTH * (size_t)(record))
+
+/* Contacts closed, buttons pressed; bit 7 is 0. */
+#define POST_CONTACT_PLUG             0x01
+#define POST_CONTACT_PERMISSION       0x02
+#define POST_CONTACT_LOCK             0x04
+#define POST_CONTACT_EMERGENCY_BUTTON 0x08
+#define POST_CONTACT_STOP_BUTTON      0x10
+#define POST_CONTACT_START_BUTTON     0x20
+#define POST_CONTACT_GROUND_FAULT     0x40 /* "leak trip" */
+
+/* Readings present; bits 3 to 7 are 0. The bytes of a missing one may hold anything. Volts and
+ * amperes are good together: both present, 0 to 1000 V and 0 to 400 A. */
+#define POST_PRESENT_VOLTS      0x01
+#define POST_PRESENT_AMPERES    0x02
+#define POST_PRESENT_INSULATION 0x04
+
+/* Frame record: places. Of several with one identifier in a tick the last counts. */
+#define POST_FRAME_IDENTIFIER 0 /* 2 bytes */
+#define POST_FRAME_LENGTH     2 /* POST_FRAME_DATA_LENGTH, or it is ignored */
+#define POST_FRAME_DATA       3
+
+/* Identifiers of the frames: the car sends the first three, the post the last two. */
+#define POST_H100 0x100
+#define POST_H101 0x101
+#define POST_H102 0x102
+#define POST_H108 0x108
+#define POST_H109 0x109
+
+/* Places in the data of the car's frames. */
+#define POST_H100_MAXIMUM_VOLTAGE 4    /* 2 bytes, of the battery */
+#define POST_H101_TIME_TENS       1    /* charging time in tens of seconds, or: */
+#define POST_H101_USE_MINUTES     0xFF /* this value there says that the minutes hold */
+#define POST_H101_TIME_MINUTES    2
+#define POST_H102_TARGET_VOLTAGE  1 /* 2 bytes */
+#define POST_H102_REQUEST         3 /* amperes */
+#define POST_H102_FAULTS          4 /* POST_FAULTS_MASK */
+#define POST_H102_STATUS          5 /* POST_STATUS_ bits */
+
+#define POST_FAULTS_MASK 0x1F /* the bits of the faults byte that are faults */
+
+#define POST_STATUS_ENABLED        0x01
+#define POST_STATUS_NOT_IN_PARK    0x02
+#define POST_STATUS_SYSTEM_FAULT   0x04
+#define POST_STATUS_CONTACTOR_OPEN 0x08
+#define POST_STATUS_STOP_REQUEST   0x10
+
+/* Output: places in the record of a lead. */
+#define POST_OUTPUT_PHASE      0
+#define POST_OUTPUT_REASON     1
+#define POST_OUTPUT_COMMAND    2  /* amperes to give */
+#define POST_OUTPUT_SWITCHES   3  /* POST_SWITCH_ bits */
+#define POST_OUTPUT_TEST_VOLTS 4  /* 2 bytes, in the insulation test, else 0 */
+#define POST_OUTPUT_SPARE      6  /* 2 bytes, 0 */
+#define POST_OUTPUT_H108       8  /* the data of H'108 */
+#define POST_OUTPUT_H109       16 /* the data of H'109 */
+
+/* What the host is to switch. */
+#define POST_SWITCH_D1     0x01 /* first charge sequence signal */
+#define POST_SWITCH_D2     0x02 /* second charge sequence signal */
+#define POST_SWITCH_LOCK   0x04
+#define POST_SWITCH_FRAMES 0x08 /* H'108 and H'109 are to be sent */
+
+/* Places in the data of the post's frames. */
+#define POST_H108_WELD_DETECTION 0 /* always 1 */
+#define POST_H108_RATED_VOLTS    1 /* 2 bytes */
+#define POST_H108_RATED_AMPERES  3
+#define POST_H108_THRESHOLD      4 /* 2 bytes, volts; 0 until it is known */
+#define POST_H109_PROTOCOL       0 /* always 2 */
+#define POST_H109_VOLTS          1 /* 2 bytes, at the connector */
+#define POST_H109_AMPERES        3
+#define POST_H109_FLAGS          5 /* POST_FLAG_ bits */
+#define POST_H109_TIME_TENS      6 /* remaining time, tens of seconds or POST_H101_USE_MINUTES */
+#define POST_H109_TIME_MINUTES   7
+
+#define POST_FLAG_CHARGING           0x01
+#define POST_FLAG_MALFUNCTION        0x02 /* of the post: reasons 13, 15 to 18, 27 */
+#define POST_FLAG_LOCKED             0x04 /* the lock contact is closed */
+#define POST_FLAG_INCOMPATIBLE       0x08 /* reason 21 */
+#define POST_FLAG_SYSTEM_MALFUNCTION 0x10 /* the conversation failed: reasons 19, 28 */
+#define POST_FLAG_STOP_CONTROL       0x20 /* set unless charging */
+
+/* Phases of a lead. */
+#define POST_PHASE_IDLE              0
+#define POST_PHASE_HANDSHAKE         1
+#define POST_PHASE_LOCKING           2
+#define POST_PHASE_INSULATION_TEST   3
+#define POST_PHASE_TEST_DISCHARGE    4 /* of the test voltage */
+#define POST_PHASE_CONTACTOR_CLOSING 5
+#define POST_PHASE_CHARGING          6
+#define POST_PHASE_RAMP_DOWN         7
+#define POST_PHASE_WELD_CHECK        8
+#define POST_PHASE_FINAL_DISCHARGE   9 /* before unlocking */
+#define POST_PHASE_ENDED             10
+
+/* Why a lead stopped. 11 to 18 are urgent: no current in that very tick. */
+#define POST_REASON_NONE             0
+#define POST_REASON_EMERGENCY_BUTTON 11
+#define POST_REASON_PLUG             12 /* the plug contact opened */
+#define POST_REASON_GROUND_FAULT     13 /* "leak trip" */
+#define POST_REASON_PERMISSION       14 /* the car's permission wire opened */
+#define POST_REASON_READING          15 /* volts or amperes missing or out of range */
+#define POST_REASON_OVER_VOLTAGE     16 /* connector volts above the threshold */
+#define POST_REASON_OVER_CURRENT     17 /* amperes above rated + 5 */
+#define POST_REASON_LOCK             18 /* the lock contact opened */
+#define POST_REASON_SILENCE          19 /* no H'102 for ten ticks */
+#define POST_REASON_VEHICLE_FAULT    20
+#define POST_REASON_VOLTAGES         21 /* the battery's voltages do not suit the post */
+#define POST_REASON_NOT_IN_PARK      22
+#define POST_REASON_NOT_ENABLED      23
+#define POST_REASON_STOP_REQUEST     24 /* by the car */
+#define POST_REASON_CONTACTOR        25 /* the car's contactor opened */
+#define POST_REASON_STOP_BUTTON      26
+#define POST_REASON_INSULATION       27
+#define POST_REASON_PHASE_TIME       28 /* a phase took too long */
+#define POST_REASON_CHARGING_TIME    29 /* the car's charging time is over */
+
+#endif
