@@ -8,6 +8,8 @@
 //! tick (32), a tab, the output (24). The tick commands what the row's level
 //! allows, in place of the division.
 //!
+//! - `lead_rows setups` prints what setup makes of cable resistances: its number
+//!   and the head's bytes for the resistance.
 //! - `lead_rows rows` prints the rows.
 //! - `lead_rows answers` prints their answers, line by line.
 //! - `lead_rows coverage` prints how often each thing worth testing occurs, and
@@ -36,6 +38,7 @@ use std::io::{self, Write as _};
 use std::process::ExitCode;
 
 use row::Row;
+use second::post;
 
 /// Rows of states that a lead reaches, then rows of states handed in. A row
 /// that came before is left out.
@@ -48,11 +51,37 @@ fn all_rows() -> Vec<Row> {
     rows
 }
 
+/// Cable resistances that document 01 names, and what stands beside them: 0.5,
+/// minus zero, 1, the next float above it, minus the smallest float, plus
+/// infinity, two NaNs.
+const RESISTANCES: [u32; 8] = [
+    0x3F00_0000,
+    0x8000_0000,
+    0x3F80_0000,
+    0x3F80_0001,
+    0x8000_0001,
+    0x7F80_0000,
+    0x7FC0_0000,
+    0xFFC0_0001,
+];
+
+fn set_up(resistance: u32) -> String {
+    let mut state = [0; post::state_bytes(1)];
+    let number = post::setup(1, 500, 125, resistance, &mut state);
+    let [a, b, c, d] = [state[4], state[5], state[6], state[7]];
+    format!("{number}\t{a:02X}{b:02X}{c:02X}{d:02X}")
+}
+
 fn main() -> ExitCode {
     let rows = all_rows();
     let mut text = String::new();
     let mut code = ExitCode::SUCCESS;
     match std::env::args().nth(1).as_deref() {
+        Some("setups") => {
+            for resistance in RESISTANCES {
+                let _ = writeln!(text, "{}", set_up(resistance));
+            }
+        }
         Some("rows") => {
             for row in &rows {
                 let _ = writeln!(text, "{row}");
@@ -70,7 +99,7 @@ fn main() -> ExitCode {
             }
         }
         _ => {
-            eprintln!("usage: lead_rows rows | answers | coverage");
+            eprintln!("usage: lead_rows setups | rows | answers | coverage");
             return ExitCode::from(2);
         }
     }

@@ -1,9 +1,7 @@
 // Digits as characters.
 ghost use mathlib.Core.Path.{_≡_};
-ghost use mathlib.Core.Bool.{true};
-ghost use Prim.Native.Nat.{_+_, _*_, _/_, _<_};
-ghost use lib.ListN.{length, getD};
-ghost use Rattle.bench_line.specs.Digits.{digitValue, isPairs, bytesOf};
+ghost use Prim.Native.Nat.{_<_};
+ghost use Rattle.bench_line.specs.Digits.{digitValue};
 ghost use Rattle.bench_line.specs.Digits.{digit as Digits·digit};
 
 // The value of a hex digit in either case, 16 for a character that is none.

@@ -1,4 +1,5 @@
 // Bytes as two capital hex digits.
+use libc::STDOUT_FILENO;
 ghost use Prim.Native.Nat.{_<_};
 
 pub(crate) fn is_digit(character: u8) -> bool {
@@ -36,4 +37,17 @@ pub(crate) fn high_digit(byte: u8) -> u8 {
 
 pub(crate) fn low_digit(byte: u8) -> u8 {
     digit(byte % 16)
+}
+
+pub(crate) fn write_byte(byte: u8) {
+    io::write_all(STDOUT_FILENO, &[high_digit(byte), low_digit(byte)]);
+}
+
+// A call's number as a character.
+pub(crate) fn digit_of(number: u32) -> u8 {
+    if number < 10 {
+        b'0' + (number as u8)
+    } else {
+        b'?'
+    }
 }

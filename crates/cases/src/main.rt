@@ -1,7 +1,8 @@
-// Runs document 01's whole case, then one lead for one tick on each row of standard input, and writes an answer line for each.
+// Runs document 01's whole case and setups with its cable resistances, then one lead for one tick on each row of standard input, and writes an answer line for each.
 // A row is four fields in capital hex, parted by tabs and ended by a line feed: head (8 bytes), level (4), lead state (32),
 // lead input (104). An answer is `0`, a tab, the state after the tick, a tab and the output; or the refusal's one character.
 mod hex;
+mod resistances;
 mod whole;
 
 use lead::Ratings;
@@ -197,6 +198,7 @@ fn answer_next() -> bool {
 // A proved loop has to end, so it counts its turns down from a number that no run uses up.
 fn main() {
     whole::whole_case();
+    resistances::resistances();
     let mut turns = u64::MAX;
     while turns > 0 && answer_next() {
         turns -= 1;

@@ -27,22 +27,9 @@ const CONTACTS: usize = 4;
 
 const PLUG_AND_START: u8 = 33;
 
-// A call's number as a character.
-fn digit(number: u32) -> u8 {
-    if number < 10 {
-        b'0' + (number as u8)
-    } else {
-        b'?'
-    }
-}
-
 fn write_bytes(bytes: &[u8; OUTPUT]) {
     for i in 0..OUTPUT {
-        let byte = bytes[i];
-        io::write_all(
-            STDOUT_FILENO,
-            &[hex::high_digit(byte), hex::low_digit(byte)],
-        );
+        hex::write_byte(bytes[i]);
     }
 }
 
@@ -52,9 +39,9 @@ pub(crate) fn whole_case() {
     let mut output = [0u8; OUTPUT];
     input[CONTACTS] = PLUG_AND_START;
     let number = setup(LEADS, RATED_VOLTS, RATED_AMPERES, RESISTANCE, &mut state);
-    io::write_all(STDOUT_FILENO, &[digit(number), b'\n']);
+    io::write_all(STDOUT_FILENO, &[hex::digit_of(number), b'\n']);
     let number = tick(&mut state, &input, &mut output);
-    io::write_all(STDOUT_FILENO, &[digit(number), b'\t']);
+    io::write_all(STDOUT_FILENO, &[hex::digit_of(number), b'\t']);
     write_bytes(&output);
     io::write_all(STDOUT_FILENO, &[b'\n']);
 }

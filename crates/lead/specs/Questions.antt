@@ -127,6 +127,10 @@ questions v s =
     ∷ ordinary chargingTimeOver 6 6 (ltb (s .stage .age) (v .time))
     ∷ []
 
+-- "11–18 are urgent": as many stand before the others
+abbrev pub urgentCount : ℕ
+urgentCount = 8
+
 -- asked in the phase, and the answer is no
 abbrev pub isNo : ℕ → Question → Bool
 isNo p q = between (q .2) (q .3) p && not (q .4)

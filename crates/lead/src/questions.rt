@@ -13,7 +13,9 @@ use readings::Reading;
 use readings::STEPS_PER_UNIT;
 use readings::is_insulated;
 ghost use mathlib.Core.Path.{_≡_};
-ghost use Rattle.lead.specs.Questions.{meterOf, isGiven, thresholdNow, viewOf, questions, isNo, stopOf, firstNo, ask, numberOf};
+ghost use mathlib.Core.Bool.{cond};
+ghost use lib.ListN.{drop};
+ghost use Rattle.lead.specs.Questions.{meterOf, isGiven, thresholdNow, viewOf, urgentCount, questions, isNo, stopOf, firstNo, ask, numberOf};
 
 // The figures of a good reading, in steps.
 pub struct Meter {
@@ -94,9 +96,6 @@ fn is_given(insulation: Reading) -> bool
 }
 
 impl Question {
-    // The document's questions 11 to 29.
-    const COUNT: usize = 19;
-
     fn is_no(self, phase: u8) -> bool
         ensures { λ r. ⌜ r ≡ isNo phase self ⌝ }
     {
@@ -113,22 +112,16 @@ impl Question {
             Verdict::Ordinary(self.0)
         }
     }
-}
 
-// From the last question to the first, so that an earlier no replaces a later one.
-fn first_no(phase: u8, rows: [Question; Question::COUNT]) -> Verdict
-    ensures { λ r. ⌜ r ≡ firstNo phase rows ⌝ }
-{
-    let mut verdict = Verdict::Pass;
-    let mut i = Question::COUNT;
-    while 0 < i {
-        i -= 1;
-        let row = rows[i];
-        if row.is_no(phase) {
-            verdict = row.stop();
+    // Its stop where it gets a no, else the verdict of the questions after it.
+    fn or(self, phase: u8, later: Verdict) -> Verdict
+        ensures { λ r. ⌜ r ≡ cond (isNo phase self) (stopOf self) later ⌝ }
+    {
+        if self.is_no(phase) {
+            return self.stop();
         }
+        later
     }
-    verdict
 }
 
 impl Lead {
@@ -166,47 +159,50 @@ impl Lead {
         }
     }
 
-    // Of a lead that has heard the tick's frames.
-    fn questions(self, view: View) -> [Question; Question::COUNT]
-        ensures { λ r. ⌜ r ≡ questions view self ⌝ }
+    // Of a lead that has heard the tick's frames: questions 19 to 29, from the last to the first, as an earlier no replaces a later one.
+    fn ask_ordinary(self, view: View) -> Verdict
+        ensures { λ r. ⌜ r ≡ firstNo (self .stage .phase) (drop urgentCount (questions view self)) ⌝ }
     {
+        let phase = self.stage.phase;
         let contacts = view.contacts;
-        let meter = view.meter;
         let signals = view.signals;
         let age = self.stage.age;
-        let step = STEPS_PER_UNIT as u32;
-        let volts_fit = meter.volts <= step * (view.threshold as u32);
-        let amperes_fit = meter.amperes <= step * ((view.rated as u32) + 5);
         let maximum = self.car.battery.maximum;
         let target = self.car.status.value.target;
         let in_range = (50 <= maximum) & (50 <= target) & (target <= view.threshold);
         let compatible = !(self.car.battery.seen & self.car.status.seen) | in_range;
-        [
-            Question(Reason::EMERGENCY_STOP, URGENT, 1, 8, !contacts.emergency),
-            Question(Reason::UNPLUGGED, URGENT, 1, 8, contacts.plug),
-            Question(Reason::GROUND_FAULT, URGENT, 1, 8, !contacts.leakage),
-            Question(Reason::PERMISSION_OPEN, URGENT, 2, 7, contacts.permission),
-            Question(Reason::BAD_READING, URGENT, 3, 7, meter.good),
-            Question(Reason::OVERVOLTAGE, URGENT, 5, 7, volts_fit),
-            Question(Reason::OVERCURRENT, URGENT, 5, 7, amperes_fit),
-            Question(Reason::UNLOCKED, URGENT, 3, 7, contacts.lock),
-            Question(Reason::CAR_SILENT, ORDINARY, 2, 6, self.car.silence < 10),
-            Question(Reason::CAR_FAULT, ORDINARY, 1, 6, signals.clear),
-            Question(Reason::INCOMPATIBLE_VOLTAGE, ORDINARY, 1, 6, compatible),
-            Question(Reason::NOT_IN_PARK, ORDINARY, 1, 6, signals.parked),
-            Question(Reason::NOT_ENABLED, ORDINARY, 2, 6, signals.enabled),
-            Question(Reason::CAR_STOP, ORDINARY, 1, 6, !signals.stop),
-            Question(Reason::CONTACTOR_OPEN, ORDINARY, 6, 6, signals.closed),
-            Question(Reason::STOP_BUTTON, ORDINARY, 1, 6, !contacts.stop),
-            Question(Reason::LOW_INSULATION, ORDINARY, 3, 3, view.insulated),
-            Question(Reason::PHASE_TIMEOUT, ORDINARY, 1, 5, age < view.limit),
-            Question(Reason::CHARGING_TIME_OVER, ORDINARY, 6, 6, age < view.time),
-        ]
+        let v = Verdict::Pass;
+        let v = Question(Reason::CHARGING_TIME_OVER, ORDINARY, 6, 6, age < view.time).or(phase, v);
+        let v = Question(Reason::PHASE_TIMEOUT, ORDINARY, 1, 5, age < view.limit).or(phase, v);
+        let v = Question(Reason::LOW_INSULATION, ORDINARY, 3, 3, view.insulated).or(phase, v);
+        let v = Question(Reason::STOP_BUTTON, ORDINARY, 1, 6, !contacts.stop).or(phase, v);
+        let v = Question(Reason::CONTACTOR_OPEN, ORDINARY, 6, 6, signals.closed).or(phase, v);
+        let v = Question(Reason::CAR_STOP, ORDINARY, 1, 6, !signals.stop).or(phase, v);
+        let v = Question(Reason::NOT_ENABLED, ORDINARY, 2, 6, signals.enabled).or(phase, v);
+        let v = Question(Reason::NOT_IN_PARK, ORDINARY, 1, 6, signals.parked).or(phase, v);
+        let v = Question(Reason::INCOMPATIBLE_VOLTAGE, ORDINARY, 1, 6, compatible).or(phase, v);
+        let v = Question(Reason::CAR_FAULT, ORDINARY, 1, 6, signals.clear).or(phase, v);
+        Question(Reason::CAR_SILENT, ORDINARY, 2, 6, self.car.silence < 10).or(phase, v)
     }
 
+    // All of them: before those the urgent ones, 11 to 18.
     pub(crate) fn ask(self, view: View) -> Verdict
         ensures { λ r. ⌜ r ≡ ask view self ⌝ }
     {
-        first_no(self.stage.phase, self.questions(view))
+        let phase = self.stage.phase;
+        let contacts = view.contacts;
+        let meter = view.meter;
+        let step = STEPS_PER_UNIT as u32;
+        let volts_fit = meter.volts <= step * (view.threshold as u32);
+        let amperes_fit = meter.amperes <= step * ((view.rated as u32) + 5);
+        let v = self.ask_ordinary(view);
+        let v = Question(Reason::UNLOCKED, URGENT, 3, 7, contacts.lock).or(phase, v);
+        let v = Question(Reason::OVERCURRENT, URGENT, 5, 7, amperes_fit).or(phase, v);
+        let v = Question(Reason::OVERVOLTAGE, URGENT, 5, 7, volts_fit).or(phase, v);
+        let v = Question(Reason::BAD_READING, URGENT, 3, 7, meter.good).or(phase, v);
+        let v = Question(Reason::PERMISSION_OPEN, URGENT, 2, 7, contacts.permission).or(phase, v);
+        let v = Question(Reason::GROUND_FAULT, URGENT, 1, 8, !contacts.leakage).or(phase, v);
+        let v = Question(Reason::UNPLUGGED, URGENT, 1, 8, contacts.plug).or(phase, v);
+        Question(Reason::EMERGENCY_STOP, URGENT, 1, 8, !contacts.emergency).or(phase, v)
     }
 }

@@ -102,19 +102,15 @@ module _ (n : ℕ) (wants : ℕ → ℕ) (limit : ℕ) where
           = lt-of-not-le (λ z. not-le-of-lt x (le-trans (given-grows n wants (l + 1) (levelOf n wants limit) z) level-fits)) in
           omega arith)
 
-  -- where the wants do not all fit, somebody wants more than a level that fits
-  pub level-wanted : (l : ℕ) → l ≤ limit → given n wants l ≤ limit → limit < given n wants limit → 0 < wantingAt n wants l
-  level-wanted l h t more = go (wantingAt n wants l) refl
+  -- where nobody wants more than a level that fits, it is the limit itself
+  pub level-met : (l : ℕ) → l ≤ limit → given n wants l ≤ limit → wantingAt n wants l ≡ 0 → limit ≡ levelOf n wants limit
+  level-met l h t e = level-is limit (omega arith) (subst (λ (m : ℕ). given n wants m ≤ limit) whole all) (inl refl)
     where
       whole : l + (limit - l) ≡ limit
       whole = omega arith
 
-      above : given n wants limit ≤ given n wants l + wantingAt n wants l * (limit - l)
-      above = subst (λ (m : ℕ). given n wants m ≤ given n wants l + wantingAt n wants l * (limit - l)) whole (given-above n wants l (limit - l))
-
-      go : (takers : ℕ) → wantingAt n wants l ≡ takers → 0 < takers
-      go zero e = absurd (omega (arith, above, ap (λ (m : ℕ). m * (limit - l)) e))
-      go (suc takers) e = omega arith
+      all : given n wants (l + (limit - l)) ≤ limit
+      all = omega (arith, given-above n wants l (limit - l), ap (λ (m : ℕ). m * (limit - l)) e)
 
   -- a round, which gives an equal part of what is left to each who wants more
   module _ (l takers part : ℕ) (t : given n wants l ≤ limit) (count : takers ≡ wantingAt n wants l) (some : 0 < takers)

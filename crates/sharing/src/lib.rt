@@ -55,17 +55,18 @@ fn part_of_rest(wants: [u32; PLACES], level: u32, limit: u32, takers: u32) -> u3
     (left as u32) / takers
 }
 
-// The limit, if all wants fit. Else raises the level round by round: what is left of the limit is divided equally among those who want more.
-// A round meets somebody's want or is the last but one, so there are few of them.
+// Raises the level round by round: what is left of the limit is divided equally among those who want more. A round meets somebody's want or
+// is the last but one, so there are few of them.
 pub fn level(wants: [u32; PLACES], limit: u32) -> u32
     ensures { λ r. ⌜ r ≡ levelOf places (wantAt wants) limit ⌝ }
 {
-    if given_at(wants, limit) <= widened(limit) {
-        return limit;
-    }
     let mut level: u32 = 0;
     while level < limit {
-        let part = part_of_rest(wants, level, limit, wanting(wants, level));
+        let takers = wanting(wants, level);
+        if takers == 0 {
+            return limit;
+        }
+        let part = part_of_rest(wants, level, limit, takers);
         if part == 0 {
             return level;
         }

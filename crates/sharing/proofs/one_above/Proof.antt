@@ -1,7 +1,7 @@
 -- `sharing::one_above` meets its contract. Assumes nothing.
-use native.Mathlib.Omega.{arith}
 use mathlib.Core.Path.{sym}
 use Prim.Native.Nat.{_-_}
+use native.Mathlib.Omega.{arith}
 use Rattle.sharing.proofs.Laws.{one-any, one-none}
 use Rattle.sharing.proofs.one_above.Statement.{statement}
 use Rattle.sharing.proofs.one_above.Tie as tie

@@ -1,7 +1,5 @@
 -- `sharing::part_of_rest` meets its contract. Assumes nothing.
 use borrow.Author.Needs.{needs}
-use mathlib.Core.Path.{ap₂}
-use Prim.Native.Nat.{ℕ, _-_, _/_}
 use Rattle.sharing.proofs.part_of_rest.Statement.{statement}
 use Rattle.sharing.proofs.part_of_rest.Tie as tie
 

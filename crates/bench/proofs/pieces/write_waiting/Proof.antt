@@ -1,9 +1,9 @@
 -- `bench::pieces::write_waiting` meets its contract. What waits is in the text. Assumes nothing.
+use borrow.Author.Needs.{needs}
 use mathlib.Core.Path.{sym}
 use native.Mathlib.Omega.{arith}
 use lib.Seq.{length-take-le}
 use denote.Ref.{now}
-use borrow.Author.Needs.{needs}
 use Rattle.bench.proofs.pieces.write_waiting.Statement.{statement}
 use Rattle.bench.proofs.pieces.write_waiting.Tie as tie
 
@@ -12,19 +12,6 @@ slice-aggregate-write-all c =
     let a = c .before .before .args in
     sym (length-take-le (a .at .waiting) (now (a .text)) (omega arith))
 
-write-all-requires : tie.Need-write-all-requires
-write-all-requires c κs = search needs
-
-over-requires : tie.Need-over-requires
-over-requires c κs = search needs
-
-returns : tie.Need-returns
-returns c = search needs
-
-returns-2 : tie.Need-returns-2
-returns-2 c = search needs
-
 pub write-waiting-spec : {M : Type 1} → statement M
 write-waiting-spec =
-    tie.close
-    (tie.spec slice-aggregate-write-all write-all-requires over-requires returns returns-2)
+    tie.close (tie.spec slice-aggregate-write-all (search needs) (search needs) (search needs) (search needs))
