@@ -13,7 +13,7 @@ pub(crate) const MOST_LEADS: u8 = 4;
 
 pub(crate) const STATE: usize = 136;
 
-// The most bytes that a line can say: behind `tick` and a tab, 995 characters of 1,000 are left.
+// The most bytes that a line can say, two characters each: behind `tick` and a tab, 995 characters of 1,000 are left.
 pub(crate) const INPUT: usize = 497;
 
 pub(crate) const OUTPUT: usize = 96;
@@ -32,7 +32,11 @@ fn greater(a: usize, b: usize) -> usize {
 pub(crate) fn leads_of(number: u32) -> u8
     ensures { λ r. ⌜ r ≤ mostLeads ⌝ }
 {
-    if number < 4 { number as u8 } else { MOST_LEADS }
+    if number < (MOST_LEADS as u32) {
+        number as u8
+    } else {
+        MOST_LEADS
+    }
 }
 
 pub(crate) fn set_up(leads: u32, volts: u32, amperes: u32, resistance: u32, state: &mut [u8]) -> u32
@@ -43,7 +47,7 @@ pub(crate) fn set_up(leads: u32, volts: u32, amperes: u32, resistance: u32, stat
     setup(leads, volts, amperes, resistance, &mut state[..end])
 }
 
-// Missing final bytes of the input are there as zeros; surplus ones are passed on.
+// Missing final bytes of the input are there as zeros; surplus ones are passed on. No line has more bytes than the buffer.
 pub(crate) fn tick_on(
     leads: u8,
     count: usize,
