@@ -1,5 +1,6 @@
 // Pieces of input, cut into lines, and the answers collected into pieces of output.
 use super::answers::answer;
+use bench_line::LONGEST;
 use bytes::copy;
 use bytes::scan::find;
 use libc::STDOUT_FILENO;
@@ -9,7 +10,7 @@ ghost use lib.ListN.{length};
 ghost use Rattle.bench.specs.Rooms.{stateRoom, lineRoom, textRoom, Fits};
 
 // One character more than a line may have: a longer line is too long whatever follows.
-pub(crate) const LINE: usize = 1001;
+pub(crate) const LINE: usize = LONGEST + 1;
 
 pub(crate) const TEXT: usize = 65536;
 

@@ -8,5 +8,6 @@ mod numbers;
 
 pub use answers::Answer;
 pub use answers::write_answer;
+pub use lines::LONGEST;
 pub use lines::Line;
 pub use lines::parse;
