@@ -234,25 +234,25 @@ uint32_t tick(uint8_t *state, size_t state_length, const uint8_t *input, size_t 
 #define POST_PHASE_ENDED             10
 
 /* Why a lead stopped. 11 to 18 are urgent: no current in that very tick. */
-#define POST_REASON_NONE             0
-#define POST_REASON_EMERGENCY_BUTTON 11
-#define POST_REASON_PLUG             12 /* the plug contact opened */
-#define POST_REASON_GROUND_FAULT     13 /* "leak trip" */
-#define POST_REASON_PERMISSION       14 /* the car's permission wire opened */
-#define POST_REASON_READING          15 /* volts or amperes missing or out of range */
-#define POST_REASON_OVER_VOLTAGE     16 /* connector volts above the threshold */
-#define POST_REASON_OVER_CURRENT     17 /* amperes above rated + 5 */
-#define POST_REASON_LOCK             18 /* the lock contact opened */
-#define POST_REASON_SILENCE          19 /* no H'102 for ten ticks */
-#define POST_REASON_VEHICLE_FAULT    20
-#define POST_REASON_VOLTAGES         21 /* the battery's voltages do not suit the post */
-#define POST_REASON_NOT_IN_PARK      22
-#define POST_REASON_NOT_ENABLED      23
-#define POST_REASON_STOP_REQUEST     24 /* by the car */
-#define POST_REASON_CONTACTOR        25 /* the car's contactor opened */
-#define POST_REASON_STOP_BUTTON      26
-#define POST_REASON_INSULATION       27
-#define POST_REASON_PHASE_TIME       28 /* a phase took too long */
-#define POST_REASON_CHARGING_TIME    29 /* the car's charging time is over */
+#define POST_REASON_NONE                 0
+#define POST_REASON_EMERGENCY_BUTTON     11
+#define POST_REASON_UNPLUGGED            12 /* the plug contact opened */
+#define POST_REASON_GROUND_FAULT         13 /* "leak trip" */
+#define POST_REASON_PERMISSION_OPEN      14 /* the car's permission wire opened */
+#define POST_REASON_BAD_READING          15 /* volts or amperes missing or out of range */
+#define POST_REASON_OVERVOLTAGE          16 /* connector volts above the threshold */
+#define POST_REASON_OVERCURRENT          17 /* amperes above rated + 5 */
+#define POST_REASON_UNLOCKED             18 /* the lock contact opened */
+#define POST_REASON_CAR_SILENT           19 /* no H'102 for ten ticks */
+#define POST_REASON_CAR_FAULT            20 /* reported by the car */
+#define POST_REASON_INCOMPATIBLE_VOLTAGE 21 /* the battery's voltages do not suit the post */
+#define POST_REASON_NOT_IN_PARK          22
+#define POST_REASON_NOT_ENABLED          23 /* the car no longer enables charging */
+#define POST_REASON_STOP_REQUEST         24 /* by the car */
+#define POST_REASON_CONTACTOR_OPEN       25 /* the car's contactor opened */
+#define POST_REASON_STOP_BUTTON          26
+#define POST_REASON_LOW_INSULATION       27 /* not at least 100 ohms a volt of the threshold */
+#define POST_REASON_PHASE_TIMEOUT        28 /* a phase took too long */
+#define POST_REASON_CHARGING_TIME_OVER   29 /* the car's charging time is over */
 
 #endif

@@ -8,6 +8,7 @@ use bench_line::Answer;
 use bench_line::Line;
 use bench_line::parse;
 use bench_line::write_answer;
+use post::SetupNumbers;
 use post::output_length;
 ghost use mathlib.Core.Path.{_≡_};
 ghost use Prim.Native.Nat.{_≤_};
@@ -20,23 +21,15 @@ pub struct Answered {
     pub count: usize,
 }
 
-fn answer_setup(
-    leads: u8,
-    asked: u32,
-    volts: u32,
-    amperes: u32,
-    resistance: u32,
-    state: &mut [u8],
-    text: &mut [u8],
-) -> Answered
+fn answer_setup(leads: u8, numbers: SetupNumbers, state: &mut [u8], text: &mut [u8]) -> Answered
     requires { ⌜ (leads ≤ mostLeads) × (length (now state) ≡ stateRoom) ⌝ }
     ensures { λ r. ⌜ (r .leads ≤ mostLeads) × (r .count ≤ length (now (text .entry))) ⌝ }
 {
-    let number = set_up(asked, volts, amperes, resistance, state);
+    let number = set_up(numbers, state);
     let count = write_answer(Answer::Returned(number as u8), &[], text);
     if number == 0 {
         return Answered {
-            leads: leads_of(asked),
+            leads: leads_of(numbers.leads),
             count,
         };
     }
@@ -44,7 +37,7 @@ fn answer_setup(
     Answered { leads, count }
 }
 
-fn answer_tick(leads: u8, given: usize, state: &mut [u8], input: &[u8], text: &mut [u8]) -> usize
+fn answer_tick(leads: u8, count: usize, state: &mut [u8], input: &[u8], text: &mut [u8]) -> usize
     requires { ⌜ (leads ≤ mostLeads) × (length (now state) ≡ stateRoom) × (length (now input) ≡ inputRoom) ⌝ }
     ensures { λ r. ⌜ r ≤ length (now (text .entry)) ⌝ }
 {
@@ -52,7 +45,7 @@ fn answer_tick(leads: u8, given: usize, state: &mut [u8], input: &[u8], text: &m
         return write_answer(Answer::Unknown, &[], text);
     }
     let mut output = [0u8; OUTPUT];
-    let number = tick_on(leads, given, state, input, &mut output);
+    let number = tick_on(leads, count, state, input, &mut output);
     if number == 0 {
         let end = output_length(leads);
         return write_answer(Answer::Done, &output[..end], text);
@@ -67,15 +60,10 @@ pub(crate) fn answer(line: &[u8], leads: u8, state: &mut [u8], text: &mut [u8]) 
 {
     let mut input = [0u8; INPUT];
     match parse(line, &mut input) {
-        Line::Setup {
-            leads: asked,
-            volts,
-            amperes,
-            resistance,
-        } => answer_setup(leads, asked, volts, amperes, resistance, state, text),
-        Line::Tick(given) => Answered {
+        Line::Setup(numbers) => answer_setup(leads, numbers, state, text),
+        Line::Tick(count) => Answered {
             leads,
-            count: answer_tick(leads, given, state, &input, text),
+            count: answer_tick(leads, count, state, &input, text),
         },
         Line::Other => Answered {
             leads,

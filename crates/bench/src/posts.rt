@@ -1,4 +1,5 @@
 // The post's two calls, on buffers with room for as many leads as a post may have.
+use post::SetupNumbers;
 use post::input_length;
 use post::output_length;
 use post::setup;
@@ -39,12 +40,18 @@ pub(crate) fn leads_of(number: u32) -> u8
     }
 }
 
-pub(crate) fn set_up(leads: u32, volts: u32, amperes: u32, resistance: u32, state: &mut [u8]) -> u32
+pub(crate) fn set_up(numbers: SetupNumbers, state: &mut [u8]) -> u32
     requires { ⌜ length (now state) ≡ stateRoom ⌝ }
-    ensures { λ r. ⌜ r < 10 ⌝ }
+    ensures { λ r. ⌜ r < 256 ⌝ }
 {
-    let end = state_length(leads_of(leads));
-    setup(leads, volts, amperes, resistance, &mut state[..end])
+    let end = state_length(leads_of(numbers.leads));
+    setup(
+        numbers.leads,
+        numbers.volts,
+        numbers.amperes,
+        numbers.resistance,
+        &mut state[..end],
+    )
 }
 
 // Missing final bytes of the input are there as zeros; surplus ones are passed on. No line has more bytes than the buffer.
@@ -57,10 +64,10 @@ pub(crate) fn tick_on(
 ) -> u32
     requires { ⌜ leads ≤ mostLeads ⌝ }
     requires { ⌜ (length (now state) ≡ stateRoom) × (length (now input) ≡ inputRoom) × (length (now output) ≡ outputRoom) ⌝ }
-    ensures { λ r. ⌜ r < 10 ⌝ }
+    ensures { λ r. ⌜ r < 256 ⌝ }
 {
     let end = state_length(leads);
-    let given = lesser(greater(input_length(leads), count), INPUT);
+    let length = lesser(greater(input_length(leads), count), INPUT);
     let shown = output_length(leads);
-    tick(&mut state[..end], &input[..given], &mut output[..shown])
+    tick(&mut state[..end], &input[..length], &mut output[..shown])
 }

@@ -9,10 +9,10 @@ use lib.Dec.{ltb, eqb}
 use lib.ListN.{length, getD, take, drop, length-drop, drop-of-length-le}
 use lib.Seq.{take-all, drop-cons}
 use borrow.Author.Tests.{eq-eqb, ne-eqb, ltb-true, ltb-false}
-use Rattle.bench_line.specs.Digits.{digitValue, within, isDigit, allDigits}
+use Rattle.common.proofs.Bools.{and-first, and-second}
+use Rattle.bench_line.specs.Digits.{digitValue, isDigit, allDigits}
 use Rattle.bench_line.specs.Lines.{push, fieldsOf}
 use Rattle.bench_line.specs.Fields.{firstTab}
-use Rattle.bench_line.proofs.Tests.{and-first, and-second}
 
 module _ (s : List ℕ) (i : ℕ) where
   pub tab-here : i < length s → getD s i 0 ≡ 9 → firstTab (drop i s) ≡ 0
@@ -81,7 +81,7 @@ by-fields s Q one more = go (ltb (firstTab s) (length s)) refl
 
 -- digits of a base hold no tab
 tab-value : digitValue 9 ≡ 16
-unfolding digitValue within
+unfolding digitValue
 tab-value = refl
 
 module _ (base : ℕ) (h : base ≤ 16) where

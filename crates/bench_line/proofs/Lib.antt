@@ -1,5 +1,4 @@
--- Laws: tests, numbers, pairs of hex digits, texts compared, fields, lines by their first word, and texts written into a buffer.
-pub mod Tests
+-- Laws: numbers, pairs of hex digits, texts compared, fields, lines by their first word, and texts written into a buffer.
 pub mod Value
 pub mod Pairs
 pub mod Compared

@@ -10,10 +10,10 @@ use lib.Dec.{leb}
 use lib.ListN.{length, getD, drop, drop-of-length-le}
 use lib.Seq.{drop-cons}
 use borrow.Author.Tests.{lt-ltb, le-ltb, le-leb, lt-leb}
+use Rattle.common.proofs.Bools.{and-false}
 use Rattle.bench_line.specs.Digits.{digitValue, allDigits, valueFrom, numberOf}
 use Rattle.bench_line.specs.declared.numbers.Number.{Number}
 use Rattle.bench_line.specs.declared.numbers.Number.the-variants.{Value, Not}
-use Rattle.bench_line.proofs.Tests.{and-false}
 
 module _ (base : ℕ) (s : List ℕ) (i : ℕ) where
   pub digits-more : i < length s → digitValue (getD s i 0) < base → allDigits base (drop i s) ≡ allDigits base (drop (i + 1) s)

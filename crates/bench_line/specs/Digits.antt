@@ -4,15 +4,13 @@ use mathlib.Core.List.{List, [], _∷_}
 use Prim.Native.Nat.{ℕ, zero, suc, _+_, _-_, _*_, _/_, _%_}
 use lib.Dec.{leb, ltb, eqb}
 use lib.ListN.{length}
+use Rattle.common.specs.Tests.{between}
 use Rattle.bench_line.specs.declared.numbers.Number.{Number}
 use Rattle.bench_line.specs.declared.numbers.Number.the-variants.{Value, Not}
 
-unfoldable pub within : ℕ → ℕ → ℕ → Bool
-within first last c = leb first c && leb c last
-
 -- "in either case": the value of the character 0 to 9, A to F or a to f, and 16 for any other
 unfoldable pub digitValue : ℕ → ℕ
-digitValue c = cond (within 48 57 c) (c - 48) (cond (within 65 70 c) (c - 55) (cond (within 97 102 c) (c - 87) 16))
+digitValue c = cond (between 48 57 c) (c - 48) (cond (between 65 70 c) (c - 55) (cond (between 97 102 c) (c - 87) 16))
 
 -- decimal digits are those of base 10, hex digits those of base 16
 abbrev pub isDigit : ℕ → ℕ → Bool

@@ -51,7 +51,7 @@ bitsLast next (f ∷ g ∷ fs) = Other
 
 -- "`setup`, leads, volts, amperes, resistance bits": the fields behind amperes, volts, leads and the word
 abbrev pub afterAmperes : ℕ → ℕ → ℕ → List (List ℕ) → Line
-afterAmperes leads volts amperes = bitsLast (λ bits. Setup leads volts amperes bits)
+afterAmperes leads volts amperes = bitsLast (λ bits. Setup (record { leads = leads; volts = volts; amperes = amperes; resistance = bits }))
 
 abbrev pub afterVolts : ℕ → ℕ → List (List ℕ) → Line
 afterVolts leads volts = decimalThen (afterAmperes leads volts)

@@ -7,6 +7,7 @@ use super::numbers::Number;
 use super::numbers::are_pairs;
 use super::numbers::bits;
 use super::numbers::write_bytes;
+use post::SetupNumbers;
 ghost use mathlib.Core.Path.{_≡_};
 ghost use Rattle.bench_line.specs.Lines.{fieldsOf, afterAmperes, afterVolts, afterLeads, setupLine, Parsed, tickLine, parsedOf};
 
@@ -14,13 +15,7 @@ ghost use Rattle.bench_line.specs.Lines.{fieldsOf, afterAmperes, afterVo
 pub const LONGEST: usize = 1000;
 
 pub enum Line {
-    // The resistance as its float's bits.
-    Setup {
-        leads: u32,
-        volts: u32,
-        amperes: u32,
-        resistance: u32,
-    },
+    Setup(SetupNumbers),
     // How many bytes of input the line has.
     Tick(usize),
     // A line to which the answer is `?`.
@@ -33,12 +28,13 @@ fn after_amperes(fields: &[u8], leads: u32, volts: u32, amperes: u32) -> Line
     let Number::Value(resistance) = bits(fields) else {
         return Line::Other;
     };
-    Line::Setup {
+    let numbers = SetupNumbers {
         leads,
         volts,
         amperes,
         resistance,
-    }
+    };
+    Line::Setup(numbers)
 }
 
 fn after_volts(fields: &[u8], leads: u32, volts: u32) -> Line

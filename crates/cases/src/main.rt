@@ -137,26 +137,26 @@ fn write_refusal(character: u8) {
 }
 
 // Answers a row whose cable resistance setup takes.
-fn tick(ratings: Ratings, level: u32, state: &[u8], given: &[u8])
-    requires { ⌜ (length (now state) ≡ stateSize) × (length (now given) ≡ inputSize) ⌝ }
+fn tick(ratings: Ratings, level: u32, state: &[u8], input: &[u8])
+    requires { ⌜ (length (now state) ≡ stateSize) × (length (now input) ≡ inputSize) ⌝ }
     requires { ⌜ allowedResistance (ratings .resistance) ≡ true ⌝ }
 {
     if !StateRecord::is_good(state, ratings) {
         write_refusal(STATE_NOT_GOOD);
         return;
     }
-    if !InputRecord::is_good(given) {
+    if !InputRecord::is_good(input) {
         write_refusal(INPUT_NOT_GOOD);
         return;
     }
-    let input = InputRecord::read(given, ratings.resistance);
+    let read = InputRecord::read(input, ratings.resistance);
     let next = StateRecord::read(state)
-        .decide(ratings, input)
+        .decide(ratings, read)
         .command(ratings, level);
-    let reading = input.reading;
+    let reading = read.reading;
     write_done(
         StateRecord::bytes(next),
-        OutputRecord::bytes(ratings, input.contacts.lock, reading, next),
+        OutputRecord::bytes(ratings, read.contacts.lock, reading, next),
     );
 }
 

@@ -2,11 +2,10 @@
 use mathlib.Core.Path.{_≡_, sym, ap, _∙_}
 use mathlib.Core.Bool.{Bool, true, false, cond}
 use mathlib.Core.List.{List}
-use Prim.Native.Nat.{ℕ, suc, _+_, _*_, _-_}
-use native.Mathlib.Nat.{add-sub-cancel-left}
+use Prim.Native.Nat.{ℕ, suc}
 use borrow.Author.Tests.{eq-eqb, ne-eqb}
 use lib.Dec.{eqb}
-use lib.ListN.{length, take, drop}
+use lib.ListN.{length}
 use Rattle.frames.specs.Records.{recordSize, recordAt, isFrame, lastOf}
 
 -- one step: n records are left, and the last of them is m
@@ -19,10 +18,6 @@ module _ (identifier : ℕ) (s : List ℕ) (n m : ℕ) (e : n ≡ suc m) where
 
   pub last-below : isFrame identifier (recordAt m s) ≡ false → lastOf identifier s m ≡ lastOf identifier s n
   last-below t = sym (step ∙ ap (λ (b : Bool). cond b (recordAt m s) (lastOf identifier s m)) t)
-
--- the part that the code takes, from the record's start to its end
-pub part-is : (s : List ℕ) (n : ℕ) → take (recordSize * n + recordSize - recordSize * n) (drop (recordSize * n) s) ≡ recordAt n s
-part-is s n = ap (λ (k : ℕ). take k (drop (recordSize * n) s)) (add-sub-cancel-left (recordSize * n) recordSize)
 
 -- the answer about a record r, which the code has as f
 module _ {A : Type 0} (says : List ℕ → A) (absent : A) {f r : List ℕ} (e : f ≡ r) where

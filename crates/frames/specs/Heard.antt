@@ -1,12 +1,13 @@
 -- Document 01, 'Frames': what the H'100, H'101 and H'102 that count say. Definitions only.
 -- Each gives the document's identifier, and the values of each case: Heard, of the record that counts; Absent, where none does and the record is [].
-use mathlib.Core.Bool.{Bool, cond, _&&_}
+use mathlib.Core.Bool.{Bool, not, cond, _&&_}
 use mathlib.Core.List.{List}
-use Prim.Native.Nat.{ℕ, _/_, _%_}
+use Prim.Native.Nat.{ℕ, _%_}
 use lib.Dec.{eqb}
 use lib.ListN.{length}
+use Rattle.little_endian.specs.Flags.{bitAt}
 use Rattle.frames.specs.Records.{recordSize, dataByte, dataNumber, newestRecord}
-use Rattle.frames.specs.Times.{bytesOf}
+use Rattle.frames.specs.Times.{timeOf}
 use Rattle.frames.specs.declared.heard.BatteryFrame.{BatteryFrame}
 use Rattle.frames.specs.declared.heard.BatteryFrame.the-variants as battery
 use Rattle.frames.specs.declared.heard.TimeFrame.{TimeFrame}
@@ -29,7 +30,7 @@ newestBattery count s =
 unfoldable pub newestTime : ℕ → List ℕ → TimeFrame
 newestTime count s =
     let r = newestRecord 0x101 count s in
-    cond (isWhole r) (time.Heard (bytesOf (dataByte r 1) (dataByte r 2))) time.Absent
+    cond (isWhole r) (time.Heard (timeOf (dataByte r 1) (dataByte r 2))) time.Absent
 
 -- "H'102: bytes 1–2 target voltage; 3 requested amperes; 4 bits 0–4 faults; 5 status"
 unfoldable pub newestStatus : ℕ → List ℕ → StatusFrame
@@ -39,17 +40,13 @@ newestStatus count s =
     (status.Heard (record { target = dataNumber r 1; request = dataByte r 3; faults = dataByte r 4; flags = dataByte r 5 }))
     status.Absent
 
--- the bit of a weight
-abbrev pub bit : ℕ → ℕ → ℕ
-bit weight byte = byte / weight % 2
-
 -- "4 bits 0–4 faults; 5 status: bit 0 enabled, 1 not in park, 2 system fault, 3 contactor open, 4 stop request"
 unfoldable pub signalsOf : VehicleStatus → VehicleSignals
 signalsOf s =
     record {
-      clear = eqb (s .faults % 32) 0 && eqb (bit 4 (s .flags)) 0;
-      enabled = eqb (bit 1 (s .flags)) 1;
-      parked = eqb (bit 2 (s .flags)) 0;
-      closed = eqb (bit 8 (s .flags)) 0;
-      stop = eqb (bit 16 (s .flags)) 1;
+      clear = eqb (s .faults % 32) 0 && not (bitAt 2 (s .flags));
+      enabled = bitAt 0 (s .flags);
+      parked = not (bitAt 1 (s .flags));
+      closed = not (bitAt 3 (s .flags));
+      stop = bitAt 4 (s .flags);
     }

@@ -1,9 +1,10 @@
 -- Document 01, 'Frames', first paragraph: which record of a tick counts. Definitions only.
 use mathlib.Core.Bool.{Bool, cond, _&&_}
 use mathlib.Core.List.{List, []}
-use Prim.Native.Nat.{ℕ, zero, suc, _+_, _*_, _/_, min}
+use Prim.Native.Nat.{ℕ, zero, suc, _+_, _/_, min}
 use lib.Dec.{eqb}
-use lib.ListN.{length, getD, take, drop}
+use lib.ListN.{length, getD}
+use Rattle.common.specs.Parts.{part}
 use Rattle.little_endian.specs.Numbers.{u16At}
 
 -- "A frame record is 11 bytes: identifier (2), length (1), data (8)."
@@ -11,7 +12,7 @@ abbrev pub recordSize : ℕ
 recordSize = 11
 
 abbrev pub recordAt : ℕ → List ℕ → List ℕ
-recordAt n s = take recordSize (drop (recordSize * n) s)
+recordAt n s = part 0 recordSize n s
 
 -- data byte i, and the number of two bytes that starts there
 abbrev pub dataByte : List ℕ → ℕ → ℕ

@@ -18,9 +18,9 @@ tensOfTicks ticks = ticks / 100
 abbrev pub minutesOfTicks : ℕ → ℕ
 minutesOfTicks ticks = ticks / 600
 
--- the two bytes
-abbrev pub bytesOf : ℕ → ℕ → ChargingTime
-bytesOf tens minutes = record { tens = record { 0 = tens }; minutes = record { 0 = minutes } }
+-- of the two bytes
+abbrev pub timeOf : ℕ → ℕ → ChargingTime
+timeOf tens minutes = record { tens = record { 0 = tens }; minutes = record { 0 = minutes } }
 
 -- "byte 1 charging time in tens of seconds; if it is H'FF, byte 2 gives minutes"
 abbrev pub inMinutes : ChargingTime → Bool
@@ -34,4 +34,4 @@ chargingTicks t = cond (inMinutes t) (ticksOfMinutes (t .minutes .0)) (ticksOfTe
 unfoldable pub remainingTime : ChargingTime → ℕ → ChargingTime
 remainingTime t elapsed =
     let left = chargingTicks t - elapsed in
-    cond (inMinutes t) (bytesOf 0xff (minutesOfTicks left)) (bytesOf (tensOfTicks left) 0)
+    cond (inMinutes t) (timeOf 0xff (minutesOfTicks left)) (timeOf (tensOfTicks left) 0)

@@ -128,10 +128,10 @@ impl VehicleStatus {
         let flags = self.flags;
         VehicleSignals {
             clear: (faults % VehicleStatus::PAST_FAULTS == 0)
-                & (flags / VehicleStatus::SYSTEM_FAULT % 2 == 0),
+                & !(flags / VehicleStatus::SYSTEM_FAULT % 2 == 1),
             enabled: flags / VehicleStatus::ENABLED % 2 == 1,
-            parked: flags / VehicleStatus::NOT_IN_PARK % 2 == 0,
-            closed: flags / VehicleStatus::CONTACTOR_OPEN % 2 == 0,
+            parked: !(flags / VehicleStatus::NOT_IN_PARK % 2 == 1),
+            closed: !(flags / VehicleStatus::CONTACTOR_OPEN % 2 == 1),
             stop: flags / VehicleStatus::STOP_REQUEST % 2 == 1,
         }
     }

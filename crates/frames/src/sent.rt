@@ -1,6 +1,6 @@
 // The frames that the post sends: H'108 and H'109, eight data bytes each.
 use super::times::ChargingTime;
-use little_endian::byte_of;
+use little_endian::flag;
 use little_endian::high_byte;
 use little_endian::low_byte;
 ghost use mathlib.Core.Path.{_≡_};
@@ -60,20 +60,28 @@ impl Offer {
 }
 
 impl ChargerFlags {
-    // Byte 5 of H'109, from bit 0 on.
+    // Weights in byte 5 of H'109.
+    const CHARGING: u8 = 1;
+
+    const MALFUNCTION: u8 = 2;
+
+    const LOCKED: u8 = 4;
+
+    const INCOMPATIBLE: u8 = 8;
+
+    const SYSTEM: u8 = 16;
+
+    const STOPPED: u8 = 32;
+
     fn byte(self) -> u8
         ensures { λ r. ⌜ r ≡ flagsByte self ⌝ }
     {
-        byte_of([
-            self.charging,
-            self.malfunction,
-            self.locked,
-            self.incompatible,
-            self.system,
-            self.stopped,
-            false,
-            false,
-        ])
+        flag(self.charging, ChargerFlags::CHARGING)
+            + flag(self.malfunction, ChargerFlags::MALFUNCTION)
+            + flag(self.locked, ChargerFlags::LOCKED)
+            + flag(self.incompatible, ChargerFlags::INCOMPATIBLE)
+            + flag(self.system, ChargerFlags::SYSTEM)
+            + flag(self.stopped, ChargerFlags::STOPPED)
     }
 }
 

@@ -13,19 +13,21 @@ use lib.Ieee.Fits.{and-l, and-r}
 use Rattle.readings.specs.Readings.{insulated}
 use Rattle.frames.specs.Heard.{signalsOf}
 use Rattle.frames.specs.Times.{chargingTicks}
-use Rattle.lead.specs.Names.{between, noReason}
-use Rattle.lead.specs.Questions.{stepsOf, mostAmperes, meterOf, thresholdNow, ticksAllowed, viewOf, once, questions, isNo, stopOf, firstNo, ask, numberOf, noQuestion, gotNo}
+use Rattle.common.specs.Tests.{between}
+use Rattle.lead.specs.Names.{noReason}
+use Rattle.lead.specs.Figures.{mostVolts, mostAmperes}
+use Rattle.lead.specs.Questions.{meterOf, thresholdNow, ticksAllowed, viewOf, once, questions, isNo, stopOf, firstNo, ask, reasonOf, noQuestion, gotNo, Question}
 use Rattle.lead.specs.Hearing.{hear}
 use Rattle.lead.specs.declared.state.Lead.{Lead}
+use Rattle.lead.specs.declared.state.HeardLead.{HeardLead}
 use Rattle.lead.specs.declared.state.Car.{Car}
 use Rattle.lead.specs.declared.state.Ratings.{Ratings}
 use Rattle.lead.specs.declared.state.Input.{Input}
 use Rattle.lead.specs.declared.questions.View.{View}
-use Rattle.lead.specs.declared.questions.Question.{Question}
 use Rattle.lead.specs.declared.questions.Verdict.{Verdict}
 use Rattle.lead.specs.declared.questions.Verdict.the-variants.{Pass, Urgent, Ordinary}
-use Rattle.readings.proofs.Tests.{either, is-true}
-use Rattle.lead.proofs.Bools.{between-lo, upTo-at}
+use mir.Facts.{or-yes}
+use Rattle.common.proofs.Bools.{is-true, between-lo, upTo-at}
 use Rattle.lead.proofs.Phases.{isPass, isUrgent}
 
 -- the question at a place
@@ -61,67 +63,67 @@ module _ (p : ℕ) where
         go false r = r
 
 stop-stops : (q : Question) → T (not (isPass (stopOf q)))
-stop-stops q = go (q .1)
+stop-stops q = go (q .urgent)
   where
-    go : (b : Bool) → T (not (isPass (cond b (Urgent (q .0)) (Ordinary (q .0)))))
+    go : (b : Bool) → T (not (isPass (cond b (Urgent (q .reason)) (Ordinary (q .reason)))))
     go true = tt
     go false = tt
 
-module _ (v : View) (s : Lead) where
+module _ (v : View) (h : HeardLead) where
   -- without a stop nothing that was asked got a no
-  pass-yes : T (isPass (ask v s)) → (j : ℕ) → T (isNo (s .stage .phase) (row (questions v s) j)) → ⊥
+  pass-yes : T (isPass (ask v h)) → (j : ℕ) → T (isNo (h .lead .stage .phase) (row (questions v h) j)) → ⊥
   unfolding ask
   pass-yes t j n =
-      T-not (isPass (ask v s)) (no-gives (s .stage .phase) (λ w. not (isPass w)) (questions v s) j n (λ i h. stop-stops (row (questions v s) i))) t
+      T-not (isPass (ask v h)) (no-gives (h .lead .stage .phase) (λ w. not (isPass w)) (questions v h) j n (λ i x. stop-stops (row (questions v h) i))) t
 
   -- the first eight are urgent, so without an urgent stop none of them got a no
-  urgent-rows : (i : ℕ) → i ≤ 7 → T (isUrgent (stopOf (row (questions v s) i)))
+  urgent-rows : (i : ℕ) → i ≤ 7 → T (isUrgent (stopOf (row (questions v h) i)))
   unfolding questions
-  urgent-rows = upTo-at 7 (λ i. isUrgent (stopOf (row (questions v s) i))) tt
+  urgent-rows = upTo-at 7 (λ i. isUrgent (stopOf (row (questions v h) i))) tt
 
-  urgent-no : (j : ℕ) → j ≤ 7 → T (isNo (s .stage .phase) (row (questions v s) j)) → T (isUrgent (ask v s))
+  urgent-no : (j : ℕ) → j ≤ 7 → T (isNo (h .lead .stage .phase) (row (questions v h) j)) → T (isUrgent (ask v h))
   unfolding ask
-  urgent-no j h n = no-gives (s .stage .phase) isUrgent (questions v s) j n (λ i k. urgent-rows i (omega arith))
+  urgent-no j x n = no-gives (h .lead .stage .phase) isUrgent (questions v h) j n (λ i k. urgent-rows i (omega arith))
 
-  mild-yes : T (not (isUrgent (ask v s))) → (j : ℕ) → j ≤ 7 → T (isNo (s .stage .phase) (row (questions v s) j)) → ⊥
-  mild-yes t j h n = T-not (isUrgent (ask v s)) t (urgent-no j h n)
+  mild-yes : T (not (isUrgent (ask v h))) → (j : ℕ) → j ≤ 7 → T (isNo (h .lead .stage .phase) (row (questions v h) j)) → ⊥
+  mild-yes t j x n = T-not (isUrgent (ask v h)) t (urgent-no j x n)
 
   -- the number of a verdict is 0 or that of a question
-  pub number-known : T (eqb (numberOf (ask v s)) noReason || between 11 29 (numberOf (ask v s)))
+  pub reason-known : T (eqb (reasonOf (ask v h)) noReason || between 11 29 (reasonOf (ask v h)))
   unfolding ask questions
-  number-known = each-gives (s .stage .phase) (λ w. eqb (numberOf w) noReason || between 11 29 (numberOf w)) (questions v s) tt tt
+  reason-known = each-gives (h .lead .stage .phase) (λ w. eqb (reasonOf w) noReason || between 11 29 (reasonOf w)) (questions v h) tt tt
 
 -- rows that are not asked in a phase give no stop
 abbrev unasked : ℕ → Question → Bool
-unasked p q = not (between (q .2) (q .3) p)
+unasked p q = not (between (q .first) (q .last) p)
 
 unasked-pass : (p : ℕ) (rows : List Question) → T (everyRow (unasked p) rows) → firstNo p rows ≡ Pass
 unasked-pass p [] t = refl
 unasked-pass p (q ∷ rows) t =
-    go (between (q .2) (q .3) p) (and-l (unasked p q) (everyRow (unasked p) rows) t)
+    go (between (q .first) (q .last) p) (and-l (unasked p q) (everyRow (unasked p) rows) t)
     (unasked-pass p rows (and-r (unasked p q) (everyRow (unasked p) rows) t))
   where
-    go : (b : Bool) → T (not b) → firstNo p rows ≡ Pass → cond (b && not (q .4)) (stopOf q) (firstNo p rows) ≡ Pass
+    go : (b : Bool) → T (not b) → firstNo p rows ≡ Pass → cond (b && not (q .answer)) (stopOf q) (firstNo p rows) ≡ Pass
     go true n e = absurd n
     go false n e = e
 
-module _ (v : View) (s : Lead) (p≤ : s .stage .phase ≤ 10) where
-  outside : T (between 1 8 (s .stage .phase) || everyRow (unasked (s .stage .phase)) (questions v s))
+module _ (v : View) (h : HeardLead) (p≤ : h .lead .stage .phase ≤ 10) where
+  outside : T (between 1 8 (h .lead .stage .phase) || everyRow (unasked (h .lead .stage .phase)) (questions v h))
   unfolding questions
-  outside = upTo-at 10 (λ p. between 1 8 p || everyRow (unasked p) (questions v s)) tt (s .stage .phase) p≤
+  outside = upTo-at 10 (λ p. between 1 8 p || everyRow (unasked p) (questions v h)) tt (h .lead .stage .phase) p≤
 
   -- outside 1 to 8 nothing is asked
-  pub quiet : T (not (between 1 8 (s .stage .phase))) → ask v s ≡ Pass
+  pub quiet : T (not (between 1 8 (h .lead .stage .phase))) → ask v h ≡ Pass
   unfolding ask
-  quiet t = go (either (between 1 8 (s .stage .phase)) (everyRow (unasked (s .stage .phase)) (questions v s)) outside)
+  quiet t = go (or-yes (between 1 8 (h .lead .stage .phase)) (everyRow (unasked (h .lead .stage .phase)) (questions v h)) outside)
     where
-      go : T (between 1 8 (s .stage .phase)) ⊎ T (everyRow (unasked (s .stage .phase)) (questions v s)) → ask v s ≡ Pass
-      go (inl w) = absurd (T-not (between 1 8 (s .stage .phase)) t w)
-      go (inr u) = unasked-pass (s .stage .phase) (questions v s) u
+      go : T (between 1 8 (h .lead .stage .phase)) ⊎ T (everyRow (unasked (h .lead .stage .phase)) (questions v h)) → ask v h ≡ Pass
+      go (inl w) = absurd (T-not (between 1 8 (h .lead .stage .phase)) t w)
+      go (inr u) = unasked-pass (h .lead .stage .phase) (questions v h) u
 
 -- a question that was asked and got no no got a yes
-said-yes : (p : ℕ) (q : Question) → (T (isNo p q) → ⊥) → T (between (q .2) (q .3) p) → T (q .4)
-said-yes p q n t = go (between (q .2) (q .3) p) (q .4) n t
+said-yes : (p : ℕ) (q : Question) → (T (isNo p q) → ⊥) → T (between (q .first) (q .last) p) → T (q .answer)
+said-yes p q n t = go (between (q .first) (q .last) p) (q .answer) n t
   where
     go : (a b : Bool) → (T (a && not b) → ⊥) → T a → T b
     go true true n t = tt
@@ -135,7 +137,7 @@ pub record UrgentYes (c : Ratings) (i : Input) (s : Lead) : Type 0 where
   pub no-ground-fault : T (between 1 8 (s .stage .phase)) → T (not (i .contacts .leakage))
   pub permission-closed : T (between 2 7 (s .stage .phase)) → T (i .contacts .permission)
   pub reading-good : T (between 3 7 (s .stage .phase)) → T (meterOf (i .reading) .good)
-  pub volts-in-range : T (between 5 7 (s .stage .phase)) → T (leb (meterOf (i .reading) .volts) (stepsOf (s .threshold)))
+  pub volts-in-range : T (between 5 7 (s .stage .phase)) → T (leb (meterOf (i .reading) .volts) (mostVolts (s .threshold)))
   pub amperes-in-range : T (between 5 7 (s .stage .phase)) → T (leb (meterOf (i .reading) .amperes) (mostAmperes (c .amperes)))
   pub lock-closed : T (between 3 7 (s .stage .phase)) → T (i .contacts .lock)
 
@@ -173,16 +175,16 @@ module _ (c : Ratings) (i : Input) (s : Lead) where
   abbrev pub asked-row : ℕ → Question
   asked-row j = row (questions (viewOf c i (hear i s)) (hear i s)) j
 
-  urgent-said : T (not (isUrgent verdict)) → (j : ℕ) → j ≤ 7 → T (between (asked-row j .2) (asked-row j .3) (hear i s .stage .phase)) → T (asked-row j .4)
-  urgent-said t j k = said-yes (hear i s .stage .phase) (asked-row j) (mild-yes (viewOf c i (hear i s)) (hear i s) t j k)
+  urgent-said : T (not (isUrgent verdict)) → (j : ℕ) → j ≤ 7 → T (between (asked-row j .first) (asked-row j .last) (hear i s .lead .stage .phase)) → T (asked-row j .answer)
+  urgent-said t j k = said-yes (hear i s .lead .stage .phase) (asked-row j) (mild-yes (viewOf c i (hear i s)) (hear i s) t j k)
 
-  said : T (isPass verdict) → (j : ℕ) → T (between (asked-row j .2) (asked-row j .3) (hear i s .stage .phase)) → T (asked-row j .4)
-  said t j = said-yes (hear i s .stage .phase) (asked-row j) (pass-yes (viewOf c i (hear i s)) (hear i s) t j)
+  said : T (isPass verdict) → (j : ℕ) → T (between (asked-row j .first) (asked-row j .last) (hear i s .lead .stage .phase)) → T (asked-row j .answer)
+  said t j = said-yes (hear i s .lead .stage .phase) (asked-row j) (pass-yes (viewOf c i (hear i s)) (hear i s) t j)
 
   -- the rows stand in the order of their numbers, from 11 on
-  pub in-order : (j : ℕ) → j ≤ 18 → asked-row j .0 ≡ 11 + j
+  pub in-order : (j : ℕ) → j ≤ 18 → asked-row j .reason ≡ 11 + j
   unfolding questions
-  in-order j h = eqb→eq (asked-row j .0) (11 + j) (upTo-at 18 (λ n. eqb (asked-row n .0) (11 + n)) tt j h)
+  in-order j h = eqb→eq (asked-row j .reason) (11 + j) (upTo-at 18 (λ n. eqb (asked-row n .reason) (11 + n)) tt j h)
 
   -- what a tick without an urgent stop implies
   pub urgent-yes : T (not (isUrgent verdict)) → UrgentYes c i s
@@ -200,7 +202,7 @@ module _ (c : Ratings) (i : Input) (s : Lead) where
       }
 
   -- what a tick without a stop implies
-  pub ordinary-yes : T (isPass verdict) → OrdinaryYes c i s (hear i s .car)
+  pub ordinary-yes : T (isPass verdict) → OrdinaryYes c i s (hear i s .lead .car)
   unfolding questions viewOf hear
   ordinary-yes t =
       record {
@@ -219,7 +221,7 @@ module _ (c : Ratings) (i : Input) (s : Lead) where
 
   -- a no, of whichever question, is a stop; of 11 to 18 an urgent one; and it is said in 1 to 8 only
   module _ (n : ℕ) (no : T (gotNo c i s n)) where
-    its-row : T (isNo (hear i s .stage .phase) (asked-row (n - 11)))
+    its-row : T (isNo (hear i s .lead .stage .phase) (asked-row (n - 11)))
     unfolding gotNo hear
     its-row = and-r (leb 11 n) (isNo (s .stage .phase) (asked-row (n - 11))) no
 

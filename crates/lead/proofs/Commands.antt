@@ -6,11 +6,11 @@ use native.Mathlib.Nat.{div-mul-le-self}
 use native.Mathlib.Omega.{arith}
 use lib.Dec.{T, eqb}
 use borrow.Author.Tests.{ne-eqb}
-use Rattle.lead.specs.Names.{between}
+use Rattle.common.specs.Tests.{between}
 use Rattle.lead.specs.Power.{wanted, wantedWatts, commanded}
 use Rattle.lead.specs.declared.state.Lead.{Lead}
 use Rattle.lead.specs.declared.state.Ratings.{Ratings}
-use Rattle.lead.proofs.Bools.{between-of}
+use Rattle.common.proofs.Bools.{between-of}
 use Rattle.lead.proofs.Watts.{carried-most}
 
 module _ (c : Ratings) (level : ℕ) (s : Lead) where

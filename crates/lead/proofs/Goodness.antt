@@ -8,21 +8,24 @@ use lib.Dec.{T, T-not, not-T, leb, eqb, leb→le, le→leb, eqb→eq}
 use lib.Ieee.Fits.{and-i, and-l, and-r}
 use borrow.Author.Tests.{eq-eqb}
 use Rattle.frames.specs.Heard.{signalsOf}
-use Rattle.lead.specs.Names.{between, handshake, locking, noReason}
-use Rattle.lead.specs.Hearing.{blank, fresh, hear}
-use Rattle.lead.specs.Questions.{thresholdNow, viewOf, numberOf}
+use Rattle.common.specs.Tests.{between}
+use Rattle.lead.specs.Names.{handshake, locking, noReason}
+use Rattle.lead.specs.Leads.{blank, fresh}
+use Rattle.lead.specs.Hearing.{hear}
+use Rattle.lead.specs.Questions.{thresholdNow, viewOf, reasonOf}
 use Rattle.lead.specs.Moves.{reasonAfter, decide}
 use Rattle.lead.specs.Power.{wanted, commanded}
 use Rattle.lead.specs.Good.{goodThreshold, goodLead}
 use Rattle.lead.specs.declared.state.Lead.{Lead}
+use Rattle.lead.specs.declared.state.HeardLead.{HeardLead}
 use Rattle.lead.specs.declared.state.Ratings.{Ratings}
 use Rattle.lead.specs.declared.state.Car.{Car}
 use Rattle.lead.specs.declared.state.Input.{Input}
-use Rattle.readings.proofs.Tests.{either, holds}
-use Rattle.lead.proofs.Bools.{or-r, mp, imp-of, is-false, between-of, between-lo}
+use mir.Facts.{or-yes}
+use Rattle.common.proofs.Bools.{holds, or-r, mp, imp-of, is-false, between-of, between-lo}
 use Rattle.lead.proofs.Phases as phases
 use Rattle.lead.proofs.Phases.{isPass}
-use Rattle.lead.proofs.Answers.{verdict, OrdinaryYes, ordinary-yes, number-known}
+use Rattle.lead.proofs.Answers.{verdict, OrdinaryYes, ordinary-yes, reason-known}
 use Rattle.lead.proofs.Ticks.{may, phaseAfter, start, MoveMet, move-met, decide-phase, started, WentOn, not-started}
 use Rattle.lead.proofs.Commands.{command-most, command-0, want-rated}
 
@@ -73,7 +76,7 @@ module _ (c : Ratings) (s : Lead) where
         phase = leb→le p 10 (and-l (leb p 10) known start);
         reason = and-r (leb p 10) known start;
         most = leb→le (s .command) (c .amperes) (and-l rated spent power);
-        unpowered = λ n. none-commanded (either (between 6 7 p) (eqb (s .command) 0) (and-r rated spent power)) n;
+        unpowered = λ n. none-commanded (or-yes (between 6 7 p) (eqb (s .command) 0) (and-r rated spent power)) n;
         threshold = and-l volts none early;
         unkept = λ e. eqb→eq t 0 (mp (eqb p handshake) (eqb t 0) (and-r volts none early) (holds (eq-eqb p handshake e)));
         kept = λ w e. T-not (eqb t 0) (mp (between 2 7 p) (not (eqb t 0)) (and-r (volts && none) some last) w) (holds (eq-eqb t 0 e));
@@ -133,10 +136,10 @@ module _ (c : Ratings) (level : ℕ) (s : Lead) (g : Good c s) where
 
 -- a lead in phase 1 that moves on has a threshold from 50 to the rated volts
 module _
-    (c : Ratings) (i : Input) (s : Lead) (wide : 50 ≤ c .volts) (e : s .stage .phase ≡ 1) (yes : OrdinaryYes c i s (hear i s .car))
-    (met : MoveMet i s (hear i s .car)) where
+    (c : Ratings) (i : Input) (s : Lead) (wide : 50 ≤ c .volts) (e : s .stage .phase ≡ 1) (yes : OrdinaryYes c i s (hear i s .lead .car))
+    (met : MoveMet i s (hear i s .lead .car)) where
   abbrev car : Car
-  car = hear i s .car
+  car = hear i s .lead .car
 
   abbrev all-seen : Bool
   all-seen = car .battery .seen && car .time .seen && car .status .seen
@@ -176,7 +179,7 @@ module _
 
 -- a tick that does not start the lead
 module _ (c : Ratings) (i : Input) (s : Lead) (wide : 50 ≤ c .volts) (g : Good c s) (off : start c i s ≡ false) where
-  abbrev h : Lead
+  abbrev h : HeardLead
   h = hear i s
 
   abbrev q : ℕ
@@ -229,7 +232,7 @@ module _ (c : Ratings) (i : Input) (s : Lead) (wide : 50 ≤ c .volts) (g : Good
       let not-kept : keeping ≡ false = is-false keeping (λ t. let two : q ≡ 2 = eqb→eq q 2 (and-r (eqb before 1) (eqb q 2) t) in omega arith) in
       let one : T (eqb q 1) = holds (eq-eqb q 1 e) in
       after false not-kept
-      ∙ go one (either (eqb before 0) (eqb before 1) (mp (eqb q 1) (eqb before 0 || eqb before 1) (phases.into-1 before (g .phase) (verdict c i s) (may c i s)) one))
+      ∙ go one (or-yes (eqb before 0) (eqb before 1) (mp (eqb q 1) (eqb before 0 || eqb before 1) (phases.into-1 before (g .phase) (verdict c i s) (may c i s)) one))
     where
       go : T (eqb q 1) → T (eqb before 0) ⊎ T (eqb before 1) → s .threshold ≡ 0
       go one (inl zero) = absurd (subst T off (and-i (eqb before 0) (eqb q 1) zero one))
@@ -238,7 +241,7 @@ module _ (c : Ratings) (i : Input) (s : Lead) (wide : 50 ≤ c .volts) (g : Good
   kept-after : T (between 2 7 q) → decide c i s .threshold ≡ 0 → ⊥
   kept-after w e =
       go
-      (either (between 2 7 before) (eqb before 1 && may c i s)
+      (or-yes (between 2 7 before) (eqb before 1 && may c i s)
       (mp (between 2 7 q) (between 2 7 before || eqb before 1 && may c i s) (phases.into-2-7 before (g .phase) (verdict c i s) (may c i s)) w))
     where
       go : T (between 2 7 before) ⊎ T (eqb before 1 && may c i s) → ⊥
@@ -265,11 +268,11 @@ module _ (c : Ratings) (i : Input) (s : Lead) (wide : 50 ≤ c .volts) (g : Good
 
   reason-after : T (eqb (decide c i s .stage .reason) noReason || between 11 29 (decide c i s .stage .reason))
   unfolding reasonAfter
-  reason-after = rw (on .reason) (go (between 7 8 before || eqb (numberOf (verdict c i s)) noReason))
+  reason-after = rw (on .reason) (go (between 7 8 before || eqb (reasonOf (verdict c i s)) noReason))
     where
-      go : (b : Bool) → T (eqb (cond b (s .stage .reason) (numberOf (verdict c i s))) noReason || between 11 29 (cond b (s .stage .reason) (numberOf (verdict c i s))))
+      go : (b : Bool) → T (eqb (cond b (s .stage .reason) (reasonOf (verdict c i s))) noReason || between 11 29 (cond b (s .stage .reason) (reasonOf (verdict c i s))))
       go true = g .reason
-      go false = number-known (viewOf c i h) h
+      go false = reason-known (viewOf c i h) h
 
   went-good : Good c (decide c i s)
   went-good =

@@ -5,21 +5,21 @@ use Prim.Native.Nat.{ℕ, _+_, min}
 use lib.Dec.{T}
 use Rattle.frames.specs.declared.heard.StatusFrame.the-variants.{Heard, Absent}
 use Rattle.frames.specs.declared.heard.VehicleStatus.{VehicleStatus}
-use Rattle.lead.specs.Names.{between}
+use Rattle.common.specs.Tests.{between}
 use Rattle.lead.specs.Hearing.{hearStatus, silenceAfter, hearCar, hear}
 use Rattle.lead.specs.declared.state.Lead.{Lead}
 use Rattle.lead.specs.declared.state.KnownStatus.{KnownStatus}
 use Rattle.lead.specs.declared.state.Input.{Input}
-use Rattle.readings.proofs.Tests.{is-true}
+use Rattle.common.proofs.Bools.{is-true}
 
 module _ (i : Input) (s : Lead) where
   -- in phases 1 to 8
   module _ (listening : T (between 1 8 (s .stage .phase))) where
-    pub hear-status : hear i s .car .status ≡ hearStatus (i .status) (s .car .status)
+    pub hear-status : hear i s .lead .car .status ≡ hearStatus (i .status) (s .car .status)
     unfolding hear hearCar
     hear-status = rw (is-true (between 1 8 (s .stage .phase)) listening)
 
-    pub hear-silence : hear i s .car .silence ≡ silenceAfter (i .status) (s .car .silence)
+    pub hear-silence : hear i s .lead .car .silence ≡ silenceAfter (i .status) (s .car .silence)
     unfolding hear hearCar
     hear-silence = rw (is-true (between 1 8 (s .stage .phase)) listening)
 

@@ -4,7 +4,6 @@
 pub mod Counting
 pub mod Watts
 pub mod FirstNo
-pub mod Bools
 pub mod Hears
 pub mod Phases
 pub mod Answers

@@ -3,11 +3,11 @@ use mathlib.Core.Bool.{Bool, true, false, not, _&&_, _||_}
 use Prim.Native.Nat.{ℕ, _≤_}
 use lib.Dec.{T, leb, eqb}
 use lib.Ieee.Fits.{and-l, and-r}
-use Rattle.lead.specs.Names.{between}
+use Rattle.common.specs.Tests.{between}
 use Rattle.lead.specs.Moves.{nextPhase}
 use Rattle.lead.specs.declared.questions.Verdict.{Verdict}
 use Rattle.lead.specs.declared.questions.Verdict.the-variants.{Pass, Urgent, Ordinary}
-use Rattle.lead.proofs.Bools.{imp, upTo, upTo-at}
+use Rattle.common.proofs.Bools.{imp, upTo, upTo-at}
 
 abbrev pub isPass : Verdict → Bool
 isPass Pass = true

@@ -7,15 +7,19 @@ use lib.Dec.{T, leb, eqb, eqb→eq}
 use lib.Ieee.Fits.{and-r}
 use borrow.Author.Tests.{eq-eqb, ne-eqb}
 use Rattle.frames.specs.Heard.{signalsOf}
-use Rattle.lead.specs.Names.{between, handshake, locking}
-use Rattle.lead.specs.Hearing.{blank, hear}
-use Rattle.lead.specs.Questions.{dischargedVolts, residualAmperes, meterOf, isGiven, thresholdNow, viewOf}
+use Rattle.common.specs.Tests.{between}
+use Rattle.lead.specs.Names.{handshake, locking}
+use Rattle.lead.specs.Leads.{blank}
+use Rattle.lead.specs.Hearing.{hear}
+use Rattle.lead.specs.Figures.{dischargedVolts, residualAmperes}
+use Rattle.lead.specs.Questions.{meterOf, isPresent, thresholdNow, viewOf}
 use Rattle.lead.specs.Moves.{moves, mayMove, nextPhase, reasonAfter, ageAfter, goOn, advance, decide}
 use Rattle.lead.specs.declared.state.Lead.{Lead}
+use Rattle.lead.specs.declared.state.HeardLead.{HeardLead}
 use Rattle.lead.specs.declared.state.Car.{Car}
 use Rattle.lead.specs.declared.state.Ratings.{Ratings}
 use Rattle.lead.specs.declared.state.Input.{Input}
-use Rattle.readings.proofs.Tests.{holds}
+use Rattle.common.proofs.Bools.{holds}
 use Rattle.lead.proofs.Answers.{verdict}
 
 module _ (c : Ratings) (i : Input) (s : Lead) where
@@ -37,7 +41,7 @@ pub record MoveMet (i : Input) (s : Lead) (car : Car) : Type 0 where
       s .stage .phase ≡ 1
       → T (car .battery .seen && car .time .seen && car .status .seen && i .contacts .permission && signalsOf (car .status .value) .enabled)
   pub out-of-2 : s .stage .phase ≡ 2 → T (i .contacts .lock)
-  pub out-of-3 : s .stage .phase ≡ 3 → T (isGiven (i .insulation))
+  pub out-of-3 : s .stage .phase ≡ 3 → T (isPresent (i .insulation))
   pub out-of-4 : s .stage .phase ≡ 4 → T (leb (meterOf (i .reading) .volts) dischargedVolts)
   pub out-of-5 : s .stage .phase ≡ 5 → T (signalsOf (car .status .value) .closed)
   pub out-of-7 : s .stage .phase ≡ 7 → T (eqb (s .command) 0 && leb (meterOf (i .reading) .amperes) residualAmperes || leb 30 (s .stage .age))
@@ -46,7 +50,7 @@ pub record MoveMet (i : Input) (s : Lead) (car : Car) : Type 0 where
   pub out-of-10 : s .stage .phase ≡ 10 → T (not (i .contacts .plug))
 
 -- of a lead that has heard, so that its phase can be replaced
-met : (c : Ratings) (i : Input) (h : Lead) → T (mayMove (viewOf c i h) h) → MoveMet i h (h .car)
+met : (c : Ratings) (i : Input) (h : HeardLead) → T (mayMove (viewOf c i h) h) → MoveMet i (h .lead) (h .lead .car)
 unfolding mayMove moves viewOf
 met c i h t =
     record {
@@ -62,7 +66,7 @@ met c i h t =
       out-of-10 = λ e. rw e at t;
     }
 
-pub move-met : (c : Ratings) (i : Input) (s : Lead) → T (may c i s) → MoveMet i s (hear i s .car)
+pub move-met : (c : Ratings) (i : Input) (s : Lead) → T (may c i s) → MoveMet i s (hear i s .lead .car)
 unfolding hear
 move-met c i s t =
     let m = met c i (hear i s) t in
@@ -95,7 +99,7 @@ module _ (c : Ratings) (i : Input) (s : Lead) where
 
 -- What a tick leaves of a lead that it does not start, and what it makes of the rest.
 pub record WentOn (c : Ratings) (i : Input) (s : Lead) : Type 0 where
-  pub car : decide c i s .car ≡ hear i s .car
+  pub car : decide c i s .car ≡ hear i s .lead .car
   pub command : decide c i s .command ≡ cond (between 6 7 (phaseAfter c i s)) (s .command) 0
   pub threshold :
       decide c i s .threshold

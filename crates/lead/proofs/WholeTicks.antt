@@ -8,7 +8,7 @@ use lib.Dec.{T, eqb, leb→le, ltb→lt, eqb→eq}
 use lib.Ieee.Fits.{and-i, and-l, and-r}
 use borrow.Author.Tests.{eq-eqb}
 use Rattle.frames.specs.Heard.{signalsOf}
-use Rattle.lead.specs.Names.{between}
+use Rattle.common.specs.Tests.{between}
 use Rattle.lead.specs.Hearing.{hear}
 use Rattle.lead.specs.Moves.{decide}
 use Rattle.lead.specs.Power.{wanted, commanded}
@@ -18,8 +18,7 @@ use Rattle.lead.specs.declared.state.Car.{Car}
 use Rattle.lead.specs.declared.state.Ratings.{Ratings}
 use Rattle.lead.specs.declared.state.Input.{Input}
 use Rattle.lead.specs.declared.questions.Verdict.{Verdict}
-use Rattle.readings.proofs.Tests.{holds, is-true}
-use Rattle.lead.proofs.Bools.{imp, mp, between-of, between-lo, between-hi, at-or-past}
+use Rattle.common.proofs.Bools.{holds, is-true, imp, mp, between-of, between-lo, between-hi, at-or-past}
 use Rattle.lead.proofs.Phases as phases
 use Rattle.lead.proofs.Phases.{isPass, isUrgent}
 use Rattle.lead.proofs.Answers.{verdict, UrgentYes, OrdinaryYes, urgent-yes, ordinary-yes}
@@ -114,21 +113,21 @@ module _ (c : Ratings) (i : Input) (s : Lead) (p≤ : s .stage .phase ≤ 10) wh
     hi : p ≤ 6
     hi = between-hi 5 6 p five-or-six
 
-    passed : OrdinaryYes c i s (hear i s .car)
+    passed : OrdinaryYes c i s (hear i s .lead .car)
     passed = ordinary-yes c i s (and-r (between 5 6 p) (isPass v) early)
 
     in-bracket : (first : ℕ) → first ≤ 5 → T (between first 6 p)
     in-bracket first h = between-of first 6 p (omega (arith, lo)) hi
 
-    contactor : (p ≡ 5) ⊎ (6 ≤ p) → T (signalsOf (hear i s .car .status .value) .closed)
+    contactor : (p ≡ 5) ⊎ (6 ≤ p) → T (signalsOf (hear i s .lead .car .status .value) .closed)
     contactor (inl e) = move-met c i s (mp (eqb p 5) m (and-r (between 5 6 p && isPass v) (imp (eqb p 5) m) came) (holds (eq-eqb p 5 e))) .out-of-5 e
     contactor (inr h) = passed .contactor-closed (between-of 6 6 p h hi)
 
-    pub ends-permitted : Permitted s (hear i s .car)
+    pub ends-permitted : Permitted s (hear i s .lead .car)
     ends-permitted =
         record {
           began = five-or-six;
-          recent = ltb→lt (hear i s .car .silence) 10 (passed .car-heard (in-bracket 2 (omega arith)));
+          recent = ltb→lt (hear i s .lead .car .silence) 10 (passed .car-heard (in-bracket 2 (omega arith)));
           clear = passed .faults-clear (in-bracket 1 (omega arith));
           parked = passed .in-park (in-bracket 1 (omega arith));
           enabled = passed .enabled (in-bracket 2 (omega arith));
@@ -148,20 +147,20 @@ module _ (c : Ratings) (i : Input) (s : Lead) (p≤ : s .stage .phase ≤ 10) wh
     kept : 1 ≤ p → T (between 6 7 q) → decide c i s .command ≡ s .command
     kept h w = not-started c i s (past-start c i s h) .command ∙ rw (is-true (between 6 7 q) w)
 
-    pub ticked-car : 1 ≤ p → ticked c level i s .car ≡ hear i s .car
+    pub ticked-car : 1 ≤ p → ticked c level i s .car ≡ hear i s .lead .car
     ticked-car h = command-car c level (decide c i s) ∙ not-started c i s (past-start c i s h) .car
 
     -- in 6 it is at most what the car asks for, the rating, and 2 A above the one before
-    pub ticked-6 : q ≡ 6 → ticked c level i s .command ≤ min (min (hear i s .car .status .value .request) (c .amperes)) (s .command + 2)
+    pub ticked-6 : q ≡ 6 → ticked c level i s .command ≤ min (min (hear i s .lead .car .status .value .request) (c .amperes)) (s .command + 2)
     ticked-6 six =
         let most : ticked c level i s .command ≤ wanted c (decide c i s) = command-most c level (decide c i s) in
         let before : 1 ≤ p = omega (arith, lo six) in
         let same : decide c i s .command ≡ s .command = kept before (between-of 6 7 q (omega arith) (omega arith)) in
-        let car : decide c i s .car ≡ hear i s .car = not-started c i s (past-start c i s before) .car in
-        let is : wanted c (decide c i s) ≡ min (min (hear i s .car .status .value .request) (c .amperes)) (s .command + 2) =
+        let car : decide c i s .car ≡ hear i s .lead .car = not-started c i s (past-start c i s before) .car in
+        let is : wanted c (decide c i s) ≡ min (min (hear i s .lead .car .status .value .request) (c .amperes)) (s .command + 2) =
         want-6 c (decide c i s) (decide-phase c i s ∙ six)
         ∙ ap (λ (x : Car). min (min (x .status .value .request) (c .amperes)) (decide c i s .command + 2)) car
-        ∙ ap (λ n. min (min (hear i s .car .status .value .request) (c .amperes)) (n + 2)) same in
+        ∙ ap (λ n. min (min (hear i s .lead .car .status .value .request) (c .amperes)) (n + 2)) same in
         omega arith
 
     -- in 7 it falls by 10 A

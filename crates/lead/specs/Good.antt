@@ -2,14 +2,16 @@
 use mathlib.Core.Bool.{Bool, not, _&&_, _||_}
 use Prim.Native.Nat.{ℕ}
 use lib.Dec.{leb, eqb}
-use Rattle.lead.specs.Names.{between, handshake, noReason}
+use Rattle.common.specs.Tests.{between}
+use Rattle.lead.specs.Names.{handshake, noReason}
+use Rattle.lead.specs.Figures.{leastVolts}
 use Rattle.lead.specs.declared.state.Lead.{Lead}
 use Rattle.lead.specs.declared.state.Ratings.{Ratings}
 
 -- "threshold 0 or 50 to rated volts, 0 in phase 1 and not 0 in phases 2–7"
 unfoldable pub goodThreshold : ℕ → ℕ → ℕ → Bool
 goodThreshold rated p threshold =
-    (eqb threshold 0 || between 50 rated threshold)
+    (eqb threshold 0 || between leastVolts rated threshold)
     && (not (eqb p handshake) || eqb threshold 0)
     && (not (between 2 7 p) || not (eqb threshold 0))
 

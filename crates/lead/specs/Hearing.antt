@@ -1,41 +1,23 @@
--- Document 01, 'Phases': what a lead remembers, and how a tick's frames change it. Definitions only.
-use mathlib.Core.Bool.{true, false, cond}
+-- Document 01, 'Phases': how a tick's frames change what a lead remembers. Definitions only.
+use mathlib.Core.Bool.{true, cond}
 use Prim.Native.Nat.{ℕ, _+_, min}
 use lib.Dec.{eqb}
-use Rattle.frames.specs.Times.{bytesOf}
 use Rattle.frames.specs.declared.heard.BatteryFrame.{BatteryFrame}
 use Rattle.frames.specs.declared.heard.BatteryFrame.the-variants as battery
 use Rattle.frames.specs.declared.heard.TimeFrame.{TimeFrame}
 use Rattle.frames.specs.declared.heard.TimeFrame.the-variants as time
 use Rattle.frames.specs.declared.heard.StatusFrame.{StatusFrame}
 use Rattle.frames.specs.declared.heard.StatusFrame.the-variants as status
-use Rattle.lead.specs.Names.{between, idle, handshake, noReason}
+use Rattle.common.specs.Tests.{between}
+use Rattle.lead.specs.Names.{handshake}
+use Rattle.lead.specs.Leads.{withCar}
 use Rattle.lead.specs.declared.state.Lead.{Lead}
+use Rattle.lead.specs.declared.state.HeardLead.{HeardLead}
 use Rattle.lead.specs.declared.state.Car.{Car}
 use Rattle.lead.specs.declared.state.KnownBattery.{KnownBattery}
 use Rattle.lead.specs.declared.state.KnownTime.{KnownTime}
 use Rattle.lead.specs.declared.state.KnownStatus.{KnownStatus}
 use Rattle.lead.specs.declared.state.Input.{Input}
-
--- a lead that remembers nothing, in phase p
-abbrev pub blank : ℕ → Lead
-blank p =
-    record {
-      stage = record { phase = p; reason = noReason; age = 0 };
-      command = 0;
-      threshold = 0;
-      car =
-          record {
-            battery = record { seen = false; maximum = 0 };
-            time = record { seen = false; value = bytesOf 0 0 };
-            status = record { seen = false; value = record { target = 0; request = 0; faults = 0; flags = 0 } };
-            silence = 0;
-          };
-    }
-
--- Setup: "phase 0, other lead bytes 0"
-abbrev pub fresh : Lead
-fresh = blank idle
 
 -- What a frame said remains until the next of its kind.
 unfoldable pub hearBattery : BatteryFrame → KnownBattery → KnownBattery
@@ -68,6 +50,5 @@ hearCar p i car =
     })
     car
 
-unfoldable pub hear : Input → Lead → Lead
-hear i s =
-    record { stage = s .stage; command = s .command; threshold = s .threshold; car = hearCar (s .stage .phase) i (s .car) }
+unfoldable pub hear : Input → Lead → HeardLead
+hear i s = record { lead = withCar (hearCar (s .stage .phase) i (s .car)) s }

@@ -1,6 +1,9 @@
 pub mod Names
+pub mod Figures
+pub mod Leads
 pub mod Hearing
 pub mod Questions
 pub mod Moves
 pub mod Power
 pub mod Good
+pub mod All

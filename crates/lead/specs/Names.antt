@@ -1,11 +1,5 @@
 -- Document 01, 'Stop questions' and 'Phases': names for its numbers. Definitions only.
-use mathlib.Core.Bool.{Bool, _&&_}
 use Prim.Native.Nat.{ℕ}
-use lib.Dec.{leb}
-
--- a number in a bracket of the document, ends included
-abbrev pub between : ℕ → ℕ → ℕ → Bool
-between first last n = leb first n && leb n last
 
 -- Phases. The document gives numbers; the names say what happens in them.
 abbrev pub idle : ℕ
@@ -49,8 +43,8 @@ ended = 10
 abbrev pub noReason : ℕ
 noReason = 0
 
-abbrev pub emergencyStop : ℕ
-emergencyStop = 11
+abbrev pub emergencyButton : ℕ
+emergencyButton = 11
 
 abbrev pub unplugged : ℕ
 unplugged = 12
@@ -88,8 +82,8 @@ notInPark = 22
 abbrev pub notEnabled : ℕ
 notEnabled = 23
 
-abbrev pub carStop : ℕ
-carStop = 24
+abbrev pub stopRequest : ℕ
+stopRequest = 24
 
 abbrev pub contactorOpen : ℕ
 contactorOpen = 25

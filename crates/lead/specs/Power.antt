@@ -3,14 +3,16 @@ use mathlib.Core.Bool.{cond}
 use Prim.Native.Nat.{ℕ, _+_, _-_, _*_, _/_, min}
 use lib.Dec.{eqb}
 use Rattle.lead.specs.Names.{charging, rampDown}
+use Rattle.lead.specs.Figures.{raise, fall}
+use Rattle.lead.specs.Leads.{withCommand}
 use Rattle.lead.specs.declared.state.Lead.{Lead}
 use Rattle.lead.specs.declared.state.Ratings.{Ratings}
 
 -- "in 6 it wants the least of request, rated amperes and command + 2; in 7, command − 10, at least 0; elsewhere 0."
 unfoldable pub wanted : Ratings → Lead → ℕ
 wanted c s =
-    cond (eqb (s .stage .phase) charging) (min (min (s .car .status .value .request) (c .amperes)) (s .command + 2))
-    (cond (eqb (s .stage .phase) rampDown) (s .command - 10) 0)
+    cond (eqb (s .stage .phase) charging) (min (min (s .car .status .value .request) (c .amperes)) (s .command + raise))
+    (cond (eqb (s .stage .phase) rampDown) (s .command - fall) 0)
 
 -- "Want in watts is that times the threshold."
 unfoldable pub wantedWatts : Ratings → Lead → ℕ
@@ -19,5 +21,4 @@ wantedWatts c s = wanted c s * s .threshold
 -- "Each new command is that smaller number", of want and level, "divided by the threshold, rounded down; outside 6 and 7 it is 0":
 -- there the want is 0. A lead without a threshold gets 0, as x / 0 is 0.
 unfoldable pub commanded : Ratings → ℕ → Lead → Lead
-commanded c level s =
-    record { stage = s .stage; command = min (wantedWatts c s) level / s .threshold; threshold = s .threshold; car = s .car }
+commanded c level s = withCommand (min (wantedWatts c s) level / s .threshold) s

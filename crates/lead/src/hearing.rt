@@ -1,6 +1,7 @@
 // Taking a tick's frames. What a frame said remains until the next of its kind.
 use super::names::Phase;
 use super::state::Car;
+use super::state::HeardLead;
 use super::state::Input;
 use super::state::KnownBattery;
 use super::state::KnownStatus;
@@ -84,11 +85,11 @@ impl Car {
 }
 
 impl Lead {
-    pub(crate) fn hear(mut self, input: Input) -> Lead
+    pub(crate) fn hear(mut self, input: Input) -> HeardLead
         ensures { λ r. ⌜ r ≡ hear input self ⌝ }
     {
         let car = self.car;
         self.car = car.hear(self.stage.phase, input);
-        self
+        HeardLead { lead: self }
     }
 }

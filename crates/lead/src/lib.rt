@@ -1,5 +1,6 @@
 // One lead: its conversation with the car, tick by tick, and the amperes that it wants. By value: bytes stand in lead_records.
-// Rests on readings and frames, and knows nothing of other leads.
+// Rests on readings, frames and common, and knows nothing of other leads.
+mod figures;
 mod good;
 mod hearing;
 mod moves;
@@ -12,11 +13,11 @@ mod state;
 pub use names::Phase;
 pub use names::Reason;
 pub use questions::Meter;
-pub use questions::Question;
 pub use questions::Verdict;
 pub use questions::View;
 pub use state::Car;
 pub use state::Contacts;
+pub use state::HeardLead;
 pub use state::Input;
 pub use state::KnownBattery;
 pub use state::KnownStatus;

@@ -1,10 +1,12 @@
 // Moves, and where a stop leads: a lead's tick but for its command.
+use super::figures::Figure;
 use super::names::Phase;
 use super::names::Reason;
 use super::numbers::at_phase;
 use super::numbers::holds_at;
 use super::questions::Verdict;
 use super::questions::View;
+use super::state::HeardLead;
 use super::state::Input;
 use super::state::Lead;
 use super::state::Ratings;
@@ -21,7 +23,7 @@ const URGENT_TO: [u8; Phase::COUNT] = [0, 10, 9, 9, 9, 9, 9, 9, 9, 9, 10];
 
 const ORDINARY_TO: [u8; Phase::COUNT] = [0, 10, 8, 8, 8, 8, 7, 7, 8, 9, 10];
 
-impl Lead {
+impl HeardLead {
     // What each phase's move wants, phases 0 to 10.
     fn moves(self, view: View) -> [bool; Phase::COUNT]
         ensures { λ r. ⌜ r ≡ moves view self ⌝ }
@@ -29,8 +31,9 @@ impl Lead {
         let contacts = view.contacts;
         let meter = view.meter;
         let signals = view.signals;
-        let car = self.car;
-        let age = self.stage.age;
+        let lead = self.lead;
+        let car = lead.car;
+        let age = lead.stage.age;
         let step = STEPS_PER_UNIT as u32;
         [
             // 0 to 1
@@ -44,19 +47,20 @@ impl Lead {
             // 2 to 3
             contacts.lock,
             // 3 to 4
-            view.given,
+            view.present,
             // 4 to 5
-            meter.volts <= step * 10,
+            meter.volts <= step * Figure::DISCHARGED_VOLTS,
             // 5 to 6
             signals.closed,
             // 6: none
             false,
             // 7 to 8
-            ((self.command == 0) & (meter.amperes <= step * 4)) | (30 <= age),
+            ((lead.command == 0) & (meter.amperes <= step * Figure::RESIDUAL_AMPERES))
+                | (Figure::RAMP_DOWN_END <= age),
             // 8 to 9
-            !signals.closed | (40 <= age),
+            !signals.closed | (Figure::WELD_CHECK_END <= age),
             // 9 to 10
-            meter.good & (meter.volts <= step * 10),
+            meter.good & (meter.volts <= step * Figure::DISCHARGED_VOLTS),
             // 10 to 0
             !contacts.plug,
         ]
@@ -65,38 +69,41 @@ impl Lead {
     fn may_move(self, view: View) -> bool
         ensures { λ r. ⌜ r ≡ mayMove view self ⌝ }
     {
-        holds_at(self.moves(view), self.stage.phase)
+        holds_at(self.moves(view), self.lead.stage.phase)
     }
 
     // A lead that is not started: its threshold is kept on the move to 2, outside 6 and 7 its command is 0.
-    fn go_on(mut self, view: View, verdict: Verdict, phase: u8) -> Lead
+    fn go_on(self, view: View, verdict: Verdict, phase: u8) -> Lead
         ensures { λ r. ⌜ r ≡ goOn view verdict phase self ⌝ }
     {
-        let before = self.stage;
+        let mut lead = self.lead;
+        let before = lead.stage;
         let keeps = (before.phase == Phase::HANDSHAKE) & (phase == Phase::LOCKING);
         let powered = (Phase::CHARGING <= phase) & (phase <= Phase::RAMP_DOWN);
-        self.threshold = volts_if(keeps, view.threshold, self.threshold);
-        self.command = amperes_if(powered, self.command);
+        lead.threshold = volts_if(keeps, view.threshold, lead.threshold);
+        lead.command = amperes_if(powered, lead.command);
         let stage = Stage {
             phase,
             reason: reason_after(before.phase, before.reason, verdict),
             age: age_after(before.phase, phase, before.age),
         };
-        self.stage = stage;
-        self
+        lead.stage = stage;
+        lead
     }
 
-    // Of a lead that has heard the tick's frames.
     fn advance(self, view: View, verdict: Verdict) -> Lead
         ensures { λ r. ⌜ r ≡ advance view verdict self ⌝ }
     {
-        let phase = next_phase(self.stage.phase, verdict, self.may_move(view));
-        if (self.stage.phase == Phase::IDLE) & (phase == Phase::HANDSHAKE) {
+        let before = self.lead.stage.phase;
+        let phase = next_phase(before, verdict, self.may_move(view));
+        if (before == Phase::IDLE) & (phase == Phase::HANDSHAKE) {
             return Lead::blank(Phase::HANDSHAKE);
         }
         self.go_on(view, verdict, phase)
     }
+}
 
+impl Lead {
     // A tick but for the command.
     pub fn decide(self, ratings: Ratings, input: Input) -> Lead
         ensures { λ r. ⌜ r ≡ decide ratings input self ⌝ }
@@ -124,11 +131,11 @@ fn reason_after(phase: u8, reason: u8, verdict: Verdict) -> u8
     ensures { λ r. ⌜ r ≡ reasonAfter phase reason verdict ⌝ }
 {
     let recorded = (Phase::RAMP_DOWN <= phase) & (phase <= Phase::WELD_CHECK);
-    let number = verdict.number();
-    if recorded | (number == Reason::NONE) {
+    let stop = verdict.reason();
+    if recorded | (stop == Reason::NONE) {
         reason
     } else {
-        number
+        stop
     }
 }
 

@@ -38,7 +38,7 @@ pub struct Reason;
 impl Reason {
     pub const NONE: u8 = 0;
 
-    pub const EMERGENCY_STOP: u8 = 11;
+    pub const EMERGENCY_BUTTON: u8 = 11;
 
     pub const UNPLUGGED: u8 = 12;
 
@@ -64,7 +64,7 @@ impl Reason {
 
     pub const NOT_ENABLED: u8 = 23;
 
-    pub const CAR_STOP: u8 = 24;
+    pub const STOP_REQUEST: u8 = 24;
 
     pub const CONTACTOR_OPEN: u8 = 25;
 

@@ -1,17 +1,23 @@
 // What a lead wants of the post's power, and the command that a level gives it.
+use super::figures::Figure;
 use super::names::Phase;
 use super::numbers::lesser;
 use super::state::Lead;
 use super::state::Ratings;
 ghost use mathlib.Core.Path.{_≡_};
 ghost use Prim.Native.Nat.{_-_, _*_, _/_, min};
+ghost use Rattle.lead.specs.Figures.{fall};
 ghost use Rattle.lead.specs.Power.{wanted, wantedWatts, commanded};
 
-// 10 A below the command, at least 0.
+// At least 0.
 fn lowered(command: u8) -> u8
-    ensures { λ r. ⌜ r ≡ command - 10 ⌝ }
+    ensures { λ r. ⌜ r ≡ command - fall ⌝ }
 {
-    if command < 10 { 0 } else { command - 10 }
+    if command < Figure::FALL {
+        0
+    } else {
+        command - Figure::FALL
+    }
 }
 
 fn watts(amperes: u8, volts: u16) -> u32
@@ -42,7 +48,7 @@ impl Lead {
         if phase == Phase::CHARGING {
             let request = self.car.status.value.request;
             let most = lesser(request as u16, ratings.amperes as u16);
-            return lesser(most, (self.command as u16) + 2) as u8;
+            return lesser(most, (self.command as u16) + Figure::RAISE) as u8;
         }
         if phase == Phase::RAMP_DOWN {
             return lowered(self.command);

@@ -1,11 +1,12 @@
 // The nineteen stop questions, and the first no.
+use super::figures::Figure;
 use super::names::Phase;
 use super::names::Reason;
 use super::numbers::at_phase;
 use super::numbers::lesser;
 use super::state::Contacts;
+use super::state::HeardLead;
 use super::state::Input;
-use super::state::Lead;
 use super::state::Ratings;
 use frames::VehicleSignals;
 use readings::Judged;
@@ -13,9 +14,10 @@ use readings::Reading;
 use readings::STEPS_PER_UNIT;
 use readings::is_insulated;
 ghost use mathlib.Core.Path.{_≡_};
-ghost use mathlib.Core.Bool.{cond};
+ghost use mathlib.Core.Bool.{not, _&&_};
 ghost use lib.ListN.{drop};
-ghost use Rattle.lead.specs.Questions.{meterOf, isGiven, thresholdNow, viewOf, urgentCount, questions, isNo, stopOf, firstNo, ask, numberOf};
+ghost use Rattle.common.specs.Tests.{between};
+ghost use Rattle.lead.specs.Questions.{meterOf, isPresent, thresholdNow, viewOf, urgentRow, ordinaryRow, urgentCount, questions, firstOr, firstNo, ask, reasonOf};
 
 // The figures of a good reading, in steps.
 pub struct Meter {
@@ -25,7 +27,7 @@ pub struct Meter {
 }
 
 // What the questions and the moves look at beside the lead's own numbers: contacts, meter, what H'102's bits say, rated
-// amperes, the threshold voltage (worked out in phase 1, kept in the later ones), whether an insulation resistance is given
+// amperes, the threshold voltage (worked out in phase 1, kept in the later ones), whether an insulation resistance is present
 // and high enough, the ticks allowed in the phase, and the charging time in ticks.
 pub struct View {
     pub contacts: Contacts,
@@ -33,9 +35,9 @@ pub struct View {
     pub signals: VehicleSignals,
     pub rated: u8,
     pub threshold: u16,
-    pub given: bool,
+    pub present: bool,
     pub insulated: bool,
-    pub limit: u32,
+    pub allowed: u32,
     pub time: u32,
 }
 
@@ -46,23 +48,14 @@ pub enum Verdict {
     Ordinary(u8),
 }
 
-// The reason that a no gives and whether it is urgent, the first and the last phase in which it is asked, and whether
-// the answer is yes.
-pub struct Question(pub u8, pub bool, pub u8, pub u8, pub bool);
-
-const URGENT: bool = true;
-
-const ORDINARY: bool = false;
-
 impl Verdict {
-    // The stop reason, none for a pass.
-    pub(crate) fn number(self) -> u8
-        ensures { λ r. ⌜ r ≡ numberOf self ⌝ }
+    pub(crate) fn reason(self) -> u8
+        ensures { λ r. ⌜ r ≡ reasonOf self ⌝ }
     {
         match self {
             Verdict::Pass => Reason::NONE,
-            Verdict::Urgent(number) => number,
-            Verdict::Ordinary(number) => number,
+            Verdict::Urgent(reason) => reason,
+            Verdict::Ordinary(reason) => reason,
         }
     }
 }
@@ -86,8 +79,8 @@ impl Meter {
     }
 }
 
-fn is_given(insulation: Reading) -> bool
-    ensures { λ r. ⌜ r ≡ isGiven insulation ⌝ }
+fn is_present(insulation: Reading) -> bool
+    ensures { λ r. ⌜ r ≡ isPresent insulation ⌝ }
 {
     match insulation {
         Reading::Value(_) => true,
@@ -95,46 +88,43 @@ fn is_given(insulation: Reading) -> bool
     }
 }
 
-impl Question {
-    fn is_no(self, phase: u8) -> bool
-        ensures { λ r. ⌜ r ≡ isNo phase self ⌝ }
-    {
-        (self.2 <= phase) & (phase <= self.3) & !self.4
-    }
-
-    // The verdict where it gets the first no.
-    fn stop(self) -> Verdict
-        ensures { λ r. ⌜ r ≡ stopOf self ⌝ }
-    {
-        if self.1 {
-            Verdict::Urgent(self.0)
-        } else {
-            Verdict::Ordinary(self.0)
-        }
-    }
-
-    // Its stop where it gets a no, else the verdict of the questions after it.
-    fn or(self, phase: u8, later: Verdict) -> Verdict
-        ensures { λ r. ⌜ r ≡ cond (isNo phase self) (stopOf self) later ⌝ }
-    {
-        if self.is_no(phase) {
-            return self.stop();
-        }
-        later
-    }
+// Whether a question with this bracket of phases is asked in the phase, and the answer is no.
+fn is_no(phase: u8, first: u8, last: u8, answer: bool) -> bool
+    ensures { λ r. ⌜ r ≡ (between first last phase && not answer) ⌝ }
+{
+    (first <= phase) & (phase <= last) & !answer
 }
 
-impl Lead {
+// A row of the list: the stop where its question gets a no, else the verdict of the rows after it.
+fn urgent_row(reason: u8, phase: u8, first: u8, last: u8, answer: bool, later: Verdict) -> Verdict
+    ensures { λ r. ⌜ r ≡ firstOr phase (urgentRow reason first last answer) later ⌝ }
+{
+    if is_no(phase, first, last, answer) {
+        return Verdict::Urgent(reason);
+    }
+    later
+}
+
+fn ordinary_row(reason: u8, phase: u8, first: u8, last: u8, answer: bool, later: Verdict) -> Verdict
+    ensures { λ r. ⌜ r ≡ firstOr phase (ordinaryRow reason first last answer) later ⌝ }
+{
+    if is_no(phase, first, last, answer) {
+        return Verdict::Ordinary(reason);
+    }
+    later
+}
+
+impl HeardLead {
     // Question 28, by phase.
     const TICKS_ALLOWED: [u8; Phase::COUNT] = [0, 100, 20, 150, 50, 100, 0, 0, 0, 0, 0];
 
     fn threshold_now(self, ratings: Ratings) -> u16
         ensures { λ r. ⌜ r ≡ thresholdNow ratings self ⌝ }
     {
-        if self.stage.phase == Phase::HANDSHAKE {
-            return lesser(ratings.volts, self.car.battery.maximum);
+        if self.lead.stage.phase == Phase::HANDSHAKE {
+            return lesser(ratings.volts, self.lead.car.battery.maximum);
         }
-        self.threshold
+        self.lead.threshold
     }
 
     pub(crate) fn view(self, ratings: Ratings, input: Input) -> View
@@ -143,8 +133,8 @@ impl Lead {
         let contacts = input.contacts;
         let reading = input.reading;
         let insulation = input.insulation;
-        let status = self.car.status.value;
-        let time = self.car.time.value;
+        let status = self.lead.car.status.value;
+        let time = self.lead.car.time.value;
         let threshold = self.threshold_now(ratings);
         View {
             contacts,
@@ -152,57 +142,61 @@ impl Lead {
             signals: status.signals(),
             rated: ratings.amperes,
             threshold,
-            given: is_given(insulation),
+            present: is_present(insulation),
             insulated: is_insulated(threshold, insulation),
-            limit: at_phase(Lead::TICKS_ALLOWED, self.stage.phase) as u32,
+            allowed: at_phase(HeardLead::TICKS_ALLOWED, self.lead.stage.phase) as u32,
             time: time.ticks().0,
         }
     }
 
-    // Of a lead that has heard the tick's frames: questions 19 to 29, from the last to the first, as an earlier no replaces a later one.
+    // Questions 19 to 29, from the last to the first, as an earlier no replaces a later one.
     fn ask_ordinary(self, view: View) -> Verdict
-        ensures { λ r. ⌜ r ≡ firstNo (self .stage .phase) (drop urgentCount (questions view self)) ⌝ }
+        ensures { λ r. ⌜ r ≡ firstNo (self .lead .stage .phase) (drop urgentCount (questions view self)) ⌝ }
     {
-        let phase = self.stage.phase;
+        let lead = self.lead;
+        let p = lead.stage.phase;
+        let age = lead.stage.age;
         let contacts = view.contacts;
         let signals = view.signals;
-        let age = self.stage.age;
-        let maximum = self.car.battery.maximum;
-        let target = self.car.status.value.target;
-        let in_range = (50 <= maximum) & (50 <= target) & (target <= view.threshold);
-        let compatible = !(self.car.battery.seen & self.car.status.seen) | in_range;
+        let maximum = lead.car.battery.maximum;
+        let target = lead.car.status.value.target;
+        let in_range = (Figure::LEAST_VOLTS <= maximum)
+            & (Figure::LEAST_VOLTS <= target)
+            & (target <= view.threshold);
+        let compatible = !(lead.car.battery.seen & lead.car.status.seen) | in_range;
+        let heard = lead.car.silence < Figure::SILENCE_END;
         let v = Verdict::Pass;
-        let v = Question(Reason::CHARGING_TIME_OVER, ORDINARY, 6, 6, age < view.time).or(phase, v);
-        let v = Question(Reason::PHASE_TIMEOUT, ORDINARY, 1, 5, age < view.limit).or(phase, v);
-        let v = Question(Reason::LOW_INSULATION, ORDINARY, 3, 3, view.insulated).or(phase, v);
-        let v = Question(Reason::STOP_BUTTON, ORDINARY, 1, 6, !contacts.stop).or(phase, v);
-        let v = Question(Reason::CONTACTOR_OPEN, ORDINARY, 6, 6, signals.closed).or(phase, v);
-        let v = Question(Reason::CAR_STOP, ORDINARY, 1, 6, !signals.stop).or(phase, v);
-        let v = Question(Reason::NOT_ENABLED, ORDINARY, 2, 6, signals.enabled).or(phase, v);
-        let v = Question(Reason::NOT_IN_PARK, ORDINARY, 1, 6, signals.parked).or(phase, v);
-        let v = Question(Reason::INCOMPATIBLE_VOLTAGE, ORDINARY, 1, 6, compatible).or(phase, v);
-        let v = Question(Reason::CAR_FAULT, ORDINARY, 1, 6, signals.clear).or(phase, v);
-        Question(Reason::CAR_SILENT, ORDINARY, 2, 6, self.car.silence < 10).or(phase, v)
+        let v = ordinary_row(Reason::CHARGING_TIME_OVER, p, 6, 6, age < view.time, v);
+        let v = ordinary_row(Reason::PHASE_TIMEOUT, p, 1, 5, age < view.allowed, v);
+        let v = ordinary_row(Reason::LOW_INSULATION, p, 3, 3, view.insulated, v);
+        let v = ordinary_row(Reason::STOP_BUTTON, p, 1, 6, !contacts.stop, v);
+        let v = ordinary_row(Reason::CONTACTOR_OPEN, p, 6, 6, signals.closed, v);
+        let v = ordinary_row(Reason::STOP_REQUEST, p, 1, 6, !signals.stop, v);
+        let v = ordinary_row(Reason::NOT_ENABLED, p, 2, 6, signals.enabled, v);
+        let v = ordinary_row(Reason::NOT_IN_PARK, p, 1, 6, signals.parked, v);
+        let v = ordinary_row(Reason::INCOMPATIBLE_VOLTAGE, p, 1, 6, compatible, v);
+        let v = ordinary_row(Reason::CAR_FAULT, p, 1, 6, signals.clear, v);
+        ordinary_row(Reason::CAR_SILENT, p, 2, 6, heard, v)
     }
 
     // All of them: before those the urgent ones, 11 to 18.
     pub(crate) fn ask(self, view: View) -> Verdict
         ensures { λ r. ⌜ r ≡ ask view self ⌝ }
     {
-        let phase = self.stage.phase;
+        let p = self.lead.stage.phase;
         let contacts = view.contacts;
         let meter = view.meter;
         let step = STEPS_PER_UNIT as u32;
         let volts_fit = meter.volts <= step * (view.threshold as u32);
-        let amperes_fit = meter.amperes <= step * ((view.rated as u32) + 5);
+        let amperes_fit = meter.amperes <= step * ((view.rated as u32) + Figure::MORE_AMPERES);
         let v = self.ask_ordinary(view);
-        let v = Question(Reason::UNLOCKED, URGENT, 3, 7, contacts.lock).or(phase, v);
-        let v = Question(Reason::OVERCURRENT, URGENT, 5, 7, amperes_fit).or(phase, v);
-        let v = Question(Reason::OVERVOLTAGE, URGENT, 5, 7, volts_fit).or(phase, v);
-        let v = Question(Reason::BAD_READING, URGENT, 3, 7, meter.good).or(phase, v);
-        let v = Question(Reason::PERMISSION_OPEN, URGENT, 2, 7, contacts.permission).or(phase, v);
-        let v = Question(Reason::GROUND_FAULT, URGENT, 1, 8, !contacts.leakage).or(phase, v);
-        let v = Question(Reason::UNPLUGGED, URGENT, 1, 8, contacts.plug).or(phase, v);
-        Question(Reason::EMERGENCY_STOP, URGENT, 1, 8, !contacts.emergency).or(phase, v)
+        let v = urgent_row(Reason::UNLOCKED, p, 3, 7, contacts.lock, v);
+        let v = urgent_row(Reason::OVERCURRENT, p, 5, 7, amperes_fit, v);
+        let v = urgent_row(Reason::OVERVOLTAGE, p, 5, 7, volts_fit, v);
+        let v = urgent_row(Reason::BAD_READING, p, 3, 7, meter.good, v);
+        let v = urgent_row(Reason::PERMISSION_OPEN, p, 2, 7, contacts.permission, v);
+        let v = urgent_row(Reason::GROUND_FAULT, p, 1, 8, !contacts.leakage, v);
+        let v = urgent_row(Reason::UNPLUGGED, p, 1, 8, contacts.plug, v);
+        urgent_row(Reason::EMERGENCY_BUTTON, p, 1, 8, !contacts.emergency, v)
     }
 }

@@ -11,7 +11,7 @@ use frames::VehicleStatus;
 use readings::Judged;
 use readings::Reading;
 ghost use mathlib.Core.Path.{_≡_};
-ghost use Rattle.lead.specs.Hearing.{blank, fresh};
+ghost use Rattle.lead.specs.Leads.{blank, fresh};
 
 // Rated volts and amperes, and the cable resistance as its float's bits.
 pub struct Ratings {
@@ -26,6 +26,11 @@ pub struct Lead {
     pub command: u8,
     pub threshold: u16,
     pub car: Car,
+}
+
+// A lead that has heard the tick's frames: what questions and moves look at.
+pub struct HeardLead {
+    pub lead: Lead,
 }
 
 // Where the conversation stands: the phase, the stop reason that is shown, and the earlier ticks in the phase.

@@ -1,8 +1,7 @@
--- Laws. For the functions here: numbers in a part of a record, bytes that are zero, the written state, and three lists joined.
+-- Laws. For the functions here: numbers in a part of a record, bytes that are zero, and frames joined.
 -- For those above: the round trips of a state, and what is read of an input and shown in an output.
 pub mod Parts
 pub mod Zeros
-pub mod Written
 pub mod Joins
 pub mod RoundTrip
 pub mod Shown

@@ -1,6 +1,6 @@
 -- A lead's state written and read again is the same, good bytes read and written again are the same, and both are good together.
 -- Assumes nothing.
-use mathlib.Core.Bool.{Bool, true, false}
+use mathlib.Core.Bool.{Bool, true}
 use mathlib.Core.List.{List, [], _∷_}
 use mathlib.Core.Path.{_≡_, refl, ap, _∙_}
 use Prim.Native.Nat.{ℕ, _+_, _-_, _≤_, _<_}
@@ -8,43 +8,31 @@ use native.Mathlib.Omega.{arith}
 use lib.Dec.{T, leb, eqb, leb→le, eqb→eq}
 use lib.ListN.{length, getD, drop, replicate, length-drop}
 use lib.Ieee.Fits.{and-l, and-r}
+use borrow.Author.Tests.{le-leb}
 use Rattle.little_endian.specs.Numbers.{byteAt, u16At, lowByte, highByte}
 use Rattle.little_endian.specs.Flags.{bitAt, byteOf}
 use Rattle.lead.specs.Good.{goodLead}
 use Rattle.lead.specs.declared.state.Lead.{Lead}
 use Rattle.lead.specs.declared.state.Ratings.{Ratings}
 use Rattle.little_endian.proofs.Spelled.{spelled-is}
+use Rattle.little_endian.proofs.Bits.{bit-back, byte-below}
 use Rattle.little_endian.proofs.Bytes.{u16-back, u32-back, low-byte-back, high-byte-back, low-half-back, high-half-back}
-use Rattle.lead.proofs.Bools.{upTo-at}
-use Rattle.lead_records.specs.States.{stateSize, spareFrom, spareBytes, unusedClear, decode, encode, allZero, goodState}
-
--- the three bits of the byte of frames seen, and that it has no others
-seen-byte :
-    (a b c : Bool)
-    → let x = byteOf (a ∷ b ∷ c ∷ []) in
-    (bitAt 0 x ≡ a) × ((bitAt 1 x ≡ b) × ((bitAt 2 x ≡ c) × (leb x 7 ≡ true)))
-seen-byte true true true = (refl, (refl, (refl, refl)))
-seen-byte true true false = (refl, (refl, (refl, refl)))
-seen-byte true false true = (refl, (refl, (refl, refl)))
-seen-byte true false false = (refl, (refl, (refl, refl)))
-seen-byte false true true = (refl, (refl, (refl, refl)))
-seen-byte false true false = (refl, (refl, (refl, refl)))
-seen-byte false false true = (refl, (refl, (refl, refl)))
-seen-byte false false false = (refl, (refl, (refl, refl)))
+use Rattle.common.proofs.Bools.{upTo-at}
+use Rattle.lead_records.specs.States.{stateSize, seenByte, spareFrom, spareBytes, unusedClear, decode, encode, allZero, goodState}
 
 pub decode-encode : (s : Lead) → decode (encode s) ≡ s
 unfolding decode encode
 decode-encode s =
     let car = s .car in
-    let seen = seen-byte (car .battery .seen) (car .time .seen) (car .status .seen) in
+    let seen = bit-back (car .battery .seen ∷ car .time .seen ∷ car .status .seen ∷ []) in
     rw (
       u16-back (s .threshold),
       u16-back (car .battery .maximum),
       u16-back (car .status .value .target),
       u32-back (s .stage .age),
-      seen .0,
-      seen .1 .0,
-      seen .1 .1 .0,
+      seen 0,
+      seen 1,
+      seen 2,
     )
 
 seen-again : (x : ℕ) → x ≤ 7 → byteOf (bitAt 0 x ∷ bitAt 1 x ∷ bitAt 2 x ∷ []) ≡ x
@@ -104,7 +92,9 @@ module _ (s : Lead) where
 
   encode-seen : leb (byteAt (encode s) 7) 7 ≡ true
   unfolding encode
-  encode-seen = seen-byte (s .car .battery .seen) (s .car .time .seen) (s .car .status .seen) .1 .1 .1
+  encode-seen =
+      let few : seenByte (s .car) < 8 = byte-below (s .car .battery .seen ∷ s .car .time .seen ∷ s .car .status .seen ∷ []) in
+      le-leb (seenByte (s .car)) 7 (omega arith)
 
   encode-spare : allZero (drop spareFrom (encode s)) ≡ true
   unfolding encode

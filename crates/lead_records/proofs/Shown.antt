@@ -8,7 +8,7 @@ use Rattle.readings.specs.declared.Judged.{Judged}
 use Rattle.little_endian.specs.Numbers.{byteAt}
 use Rattle.frames.specs.Heard.{newestStatus}
 use Rattle.frames.specs.Sent.{offerBytes, reportBytes}
-use Rattle.lead.specs.Names.{between}
+use Rattle.common.specs.Tests.{between}
 use Rattle.lead.specs.declared.state.Lead.{Lead}
 use Rattle.lead.specs.declared.state.Ratings.{Ratings}
 use Rattle.lead_records.specs.Inputs.{contactsOf, frameRecords, inputOf}

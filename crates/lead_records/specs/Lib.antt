@@ -1,3 +1,4 @@
 pub mod States
 pub mod Inputs
 pub mod Outputs
+pub mod All

@@ -8,13 +8,14 @@ use Rattle.little_endian.specs.Flags.{byteOf}
 use Rattle.readings.specs.Readings.{wholeUnits}
 use Rattle.readings.specs.declared.Judged.{Judged}
 use Rattle.readings.specs.declared.Judged.the-variants.{Good, Bad}
-use Rattle.frames.specs.Times.{bytesOf, remainingTime}
+use Rattle.frames.specs.Times.{timeOf, remainingTime}
 use Rattle.frames.specs.Sent.{offerBytes, reportBytes}
 use Rattle.frames.specs.declared.times.ChargingTime.{ChargingTime}
 use Rattle.frames.specs.declared.sent.ChargerFlags.{ChargerFlags}
 use Rattle.frames.specs.declared.sent.Offer.{Offer}
 use Rattle.frames.specs.declared.sent.Report.{Report}
-use Rattle.lead.specs.Names.{between, insulationTest, charging, groundFault, badReading, unlocked, carSilent, incompatibleVoltage, lowInsulation, phaseTimeout}
+use Rattle.common.specs.Tests.{between}
+use Rattle.lead.specs.Names.{insulationTest, charging, groundFault, badReading, unlocked, carSilent, incompatibleVoltage, lowInsulation, phaseTimeout}
 use Rattle.lead.specs.declared.state.Lead.{Lead}
 use Rattle.lead.specs.declared.state.Ratings.{Ratings}
 use Rattle.lead_records.specs.declared.outputs.Figures.{Figures}
@@ -24,8 +25,8 @@ abbrev pub outputSize : ℕ
 outputSize = 24
 
 -- "3 bits d1 (phases 1–8), d2 (5–8), lock (2–9), frames to be sent (1–9)"
-unfoldable pub controls : ℕ → ℕ
-controls p = byteOf (between 1 8 p ∷ between 5 8 p ∷ between 2 9 p ∷ between 1 9 p ∷ [])
+unfoldable pub switches : ℕ → ℕ
+switches p = byteOf (between 1 8 p ∷ between 5 8 p ∷ between 2 9 p ∷ between 1 9 p ∷ [])
 
 -- "4–5 test volts, the threshold in phase 3, else 0"
 unfoldable pub testVolts : Lead → ℕ
@@ -52,7 +53,7 @@ unfoldable pub remainingOf : Lead → ChargingTime
 remainingOf s =
     cond (between 2 6 (s .stage .phase))
     (remainingTime (s .car .time .value) (cond (eqb (s .stage .phase) charging) (s .stage .age) 0))
-    (bytesOf 0 0)
+    (timeOf 0 0)
 
 -- "Without a good reading 1–3 are 0."
 abbrev pub figuresOf : Judged → Figures
@@ -76,7 +77,7 @@ whileSending p frame = cond (between 1 9 p) frame (0 ∷ 0 ∷ 0 ∷ 0 ∷ 0 ∷
 -- "0 phase; 1 reason; 2 command; 3 bits …; 4–5 test volts …; 6–7 zero"
 unfoldable pub shownBytes : Lead → List ℕ
 shownBytes s =
-    s .stage .phase ∷ s .stage .reason ∷ s .command ∷ controls (s .stage .phase) ∷ lowByte (testVolts s) ∷ highByte (testVolts s) ∷ 0 ∷ 0 ∷ []
+    s .stage .phase ∷ s .stage .reason ∷ s .command ∷ switches (s .stage .phase) ∷ lowByte (testVolts s) ∷ highByte (testVolts s) ∷ 0 ∷ 0 ∷ []
 
 -- "H'108; H'109"
 unfoldable pub outputOf : Ratings → Bool → Judged → Lead → List ℕ

@@ -6,7 +6,7 @@ use lib.Dec.{leb, eqb}
 use lib.ListN.{drop, replicate}
 use Rattle.little_endian.specs.Numbers.{byteAt, u16At, u32At, u16Bytes, u32Bytes}
 use Rattle.little_endian.specs.Flags.{bitAt, byteOf}
-use Rattle.frames.specs.Times.{bytesOf}
+use Rattle.frames.specs.Times.{timeOf}
 use Rattle.lead.specs.Good.{goodLead}
 use Rattle.lead.specs.declared.state.Lead.{Lead}
 use Rattle.lead.specs.declared.state.Car.{Car}
@@ -31,7 +31,7 @@ decode b =
       car =
           record {
             battery = record { seen = bitAt 0 (byteAt b 7); maximum = u16At b 10 };
-            time = record { seen = bitAt 1 (byteAt b 7); value = bytesOf (byteAt b 14) (byteAt b 15) };
+            time = record { seen = bitAt 1 (byteAt b 7); value = timeOf (byteAt b 14) (byteAt b 15) };
             status =
                 record {
                   seen = bitAt 2 (byteAt b 7);

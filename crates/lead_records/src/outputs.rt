@@ -10,7 +10,7 @@ use lead::Lead;
 use lead::Phase;
 use lead::Ratings;
 use lead::Reason;
-use little_endian::byte_of;
+use little_endian::flag;
 use little_endian::high_byte;
 use little_endian::low_byte;
 use readings::Judged;
@@ -18,9 +18,10 @@ use readings::whole_units;
 ghost use mathlib.Core.Path.{_≡_};
 ghost use mathlib.Core.List.{_++_};
 ghost use Rattle.frames.specs.Sent.{offerBytes, reportBytes};
-ghost use Rattle.lead_records.specs.Outputs.{controls, testVolts, offerOf, flagsOf, remainingOf, figuresOf, reportOf, whileSending, shownBytes, outputOf};
+ghost use lib.ListN.{replicate};
+ghost use Rattle.lead_records.specs.Outputs.{switches, testVolts, offerOf, flagsOf, remainingOf, figuresOf, reportOf, whileSending, outputOf};
 
-// The output's size.
+// The output's size, the places in it, and the weights in its byte of switches.
 pub struct OutputRecord;
 
 // Volts and amperes as H'109 shows them.
@@ -32,15 +33,41 @@ struct Figures {
 impl OutputRecord {
     pub const SIZE: usize = 24;
 
-    // The relays d1 and d2, the lock, and whether frames are to be sent, from bit 0 on.
-    fn controls(phase: u8) -> u8
-        ensures { λ r. ⌜ r ≡ controls phase ⌝ }
+    const PHASE: usize = 0;
+
+    const REASON: usize = 1;
+
+    const COMMAND: usize = 2;
+
+    const SWITCHES: usize = 3;
+
+    const TEST_VOLTS: usize = 4;
+
+    // The two frames.
+    const OFFER: usize = 8;
+
+    const REPORT: usize = 16;
+
+    // The relays d1 and d2, the lock, and whether frames are to be sent.
+    const D1: u8 = 1;
+
+    const D2: u8 = 2;
+
+    const LOCK: u8 = 4;
+
+    const FRAMES: u8 = 8;
+
+    fn switches(phase: u8) -> u8
+        ensures { λ r. ⌜ r ≡ switches phase ⌝ }
     {
         let d1 = (Phase::HANDSHAKE <= phase) & (phase <= Phase::WELD_CHECK);
         let d2 = (Phase::CONTACTOR_CLOSING <= phase) & (phase <= Phase::WELD_CHECK);
         let lock = (Phase::LOCKING <= phase) & (phase <= Phase::FINAL_DISCHARGE);
         let frames = (Phase::HANDSHAKE <= phase) & (phase <= Phase::FINAL_DISCHARGE);
-        byte_of([d1, d2, lock, frames, false, false, false, false])
+        flag(d1, OutputRecord::D1)
+            + flag(d2, OutputRecord::D2)
+            + flag(lock, OutputRecord::LOCK)
+            + flag(frames, OutputRecord::FRAMES)
     }
 
     fn test_volts(lead: Lead) -> u16
@@ -133,21 +160,28 @@ impl OutputRecord {
         if sending { frame } else { [0u8; 8] }
     }
 
-    // Phase, reason, command, relays and lock, test volts.
-    fn shown(lead: Lead) -> [u8; 8]
-        ensures { λ r. ⌜ r ≡ shownBytes lead ⌝ }
+    // The frames at their places, and zeros before them.
+    fn with_frames(offer: [u8; 8], report: [u8; 8]) -> [u8; OutputRecord::SIZE]
+        ensures { λ r. ⌜ r ≡ replicate 8 0 ++ offer ++ report ⌝ }
     {
-        let test = OutputRecord::test_volts(lead);
-        [
-            lead.stage.phase,
-            lead.stage.reason,
-            lead.command,
-            OutputRecord::controls(lead.stage.phase),
-            low_byte(test),
-            high_byte(test),
-            0,
-            0,
-        ]
+        let mut bytes = [0u8; OutputRecord::SIZE];
+        bytes[OutputRecord::OFFER] = offer[0];
+        bytes[OutputRecord::OFFER + 1] = offer[1];
+        bytes[OutputRecord::OFFER + 2] = offer[2];
+        bytes[OutputRecord::OFFER + 3] = offer[3];
+        bytes[OutputRecord::OFFER + 4] = offer[4];
+        bytes[OutputRecord::OFFER + 5] = offer[5];
+        bytes[OutputRecord::OFFER + 6] = offer[6];
+        bytes[OutputRecord::OFFER + 7] = offer[7];
+        bytes[OutputRecord::REPORT] = report[0];
+        bytes[OutputRecord::REPORT + 1] = report[1];
+        bytes[OutputRecord::REPORT + 2] = report[2];
+        bytes[OutputRecord::REPORT + 3] = report[3];
+        bytes[OutputRecord::REPORT + 4] = report[4];
+        bytes[OutputRecord::REPORT + 5] = report[5];
+        bytes[OutputRecord::REPORT + 6] = report[6];
+        bytes[OutputRecord::REPORT + 7] = report[7];
+        bytes
     }
 
     // Of the lead after the tick, with the tick's lock contact and reading.
@@ -162,41 +196,17 @@ impl OutputRecord {
         let phase = lead.stage.phase;
         let offer = OutputRecord::offer(ratings, lead);
         let report = OutputRecord::report(lock, reading, lead);
-        joined(
-            OutputRecord::shown(lead),
+        let mut bytes = OutputRecord::with_frames(
             OutputRecord::while_sending(phase, offer),
             OutputRecord::while_sending(phase, report),
-        )
+        );
+        let test = OutputRecord::test_volts(lead);
+        bytes[OutputRecord::PHASE] = phase;
+        bytes[OutputRecord::REASON] = lead.stage.reason;
+        bytes[OutputRecord::COMMAND] = lead.command;
+        bytes[OutputRecord::SWITCHES] = OutputRecord::switches(phase);
+        bytes[OutputRecord::TEST_VOLTS] = low_byte(test);
+        bytes[OutputRecord::TEST_VOLTS + 1] = high_byte(test);
+        bytes
     }
-}
-
-fn joined(a: [u8; 8], b: [u8; 8], c: [u8; 8]) -> [u8; OutputRecord::SIZE]
-    ensures { λ r. ⌜ r ≡ a ++ b ++ c ⌝ }
-{
-    [
-        a[0],
-        a[1],
-        a[2],
-        a[3],
-        a[4],
-        a[5],
-        a[6],
-        a[7],
-        b[0],
-        b[1],
-        b[2],
-        b[3],
-        b[4],
-        b[5],
-        b[6],
-        b[7],
-        c[0],
-        c[1],
-        c[2],
-        c[3],
-        c[4],
-        c[5],
-        c[6],
-        c[7],
-    ]
 }

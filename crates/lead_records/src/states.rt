@@ -10,13 +10,12 @@ use lead::KnownTime;
 use lead::Lead;
 use lead::Ratings;
 use lead::Stage;
-use little_endian::byte_of;
+use little_endian::flag;
 use little_endian::high_byte;
-use little_endian::high_half;
 use little_endian::low_byte;
-use little_endian::low_half;
 use little_endian::u16_at;
 use little_endian::u32_at;
+use little_endian::u32_bytes;
 ghost use mathlib.Core.Path.{_≡_};
 ghost use lib.ListN.{length, drop};
 ghost use Rattle.lead_records.specs.States.{stateSize, decode, seenByte, encode, allZero, goodState};
@@ -120,8 +119,7 @@ impl StateRecord {
         let car = lead.car;
         let status = car.status.value;
         let time = car.time.value;
-        let low = low_half(stage.age);
-        let high = high_half(stage.age);
+        let age = u32_bytes(stage.age);
         let mut bytes = [0u8; StateRecord::SIZE];
         bytes[StateRecord::PHASE] = stage.phase;
         bytes[StateRecord::REASON] = stage.reason;
@@ -139,26 +137,19 @@ impl StateRecord {
         bytes[StateRecord::TARGET + 1] = high_byte(status.target);
         bytes[StateRecord::TENS] = time.tens.0;
         bytes[StateRecord::MINUTES] = time.minutes.0;
-        bytes[StateRecord::AGE] = low_byte(low);
-        bytes[StateRecord::AGE + 1] = high_byte(low);
-        bytes[StateRecord::AGE + 2] = low_byte(high);
-        bytes[StateRecord::AGE + 3] = high_byte(high);
+        bytes[StateRecord::AGE] = age[0];
+        bytes[StateRecord::AGE + 1] = age[1];
+        bytes[StateRecord::AGE + 2] = age[2];
+        bytes[StateRecord::AGE + 3] = age[3];
         bytes
     }
 
     fn seen(car: Car) -> u8
         ensures { λ r. ⌜ r ≡ seenByte car ⌝ }
     {
-        byte_of([
-            car.battery.seen,
-            car.time.seen,
-            car.status.seen,
-            false,
-            false,
-            false,
-            false,
-            false,
-        ])
+        flag(car.battery.seen, StateRecord::SEEN_BATTERY)
+            + flag(car.time.seen, StateRecord::SEEN_TIME)
+            + flag(car.status.seen, StateRecord::SEEN_STATUS)
     }
 
     // A lead's part of refusal 6.

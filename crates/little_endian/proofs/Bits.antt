@@ -1,29 +1,39 @@
--- A byte as the sum of its bits' weights. Assumes nothing.
-use mathlib.Core.Bool.{Bool, false}
-use mathlib.Core.List.{List}
-use mathlib.Core.Path.{_≡_, ap, _∙_}
-use Prim.Native.Nat.{ℕ, _+_, _*_}
+-- A byte put together of bits: each read again, and how large it is. Assumes nothing.
+use mathlib.Core.Bool.{Bool, true, false}
+use mathlib.Core.List.{List, [], _∷_}
+use mathlib.Core.Path.{_≡_, sym, ap, _∙_}
+use Prim.Native.Nat.{ℕ, zero, suc, _+_, _*_, _/_, _%_, _^_, _<_}
+use native.Mathlib.Nat.{zero-div}
 use native.Mathlib.Omega.{arith}
+use borrow.Author.Tests.{eq-eqb, ne-eqb}
+use lib.Dec.{eqb}
 use lib.ListN.{length, getD}
-use Rattle.little_endian.specs.Flags.{bitValue, byteOf}
-use Rattle.little_endian.proofs.Spelled.{eight}
+use lib.Pow.{pow-add, shr-shr}
+use Rattle.little_endian.specs.Flags.{bitAt, bitValue, byteOf}
 
-nested :
-    (a b c d e f g h : ℕ)
-    → a + 2 * b + 4 * c + 8 * d + 16 * e + 32 * f + 64 * g + 128 * h
-    ≡ a + 2 * (b + 2 * (c + 2 * (d + 2 * (e + 2 * (f + 2 * (g + 2 * (h + 2 * 0)))))))
-nested a b c d e f g h = omega arith
+half : (bit : Bool) (m : ℕ) → (bitValue bit + 2 * m) / 2 ≡ m
+half true m = omega arith
+half false m = omega arith
 
-module _ (bits : List Bool) where
-  pub weights :
-      length bits ≡ 8
-      → bitValue (getD bits 0 false)
-      + 2 * bitValue (getD bits 1 false)
-      + 4 * bitValue (getD bits 2 false)
-      + 8 * bitValue (getD bits 3 false)
-      + 16 * bitValue (getD bits 4 false)
-      + 32 * bitValue (getD bits 5 false)
-      + 64 * bitValue (getD bits 6 false)
-      + 128 * bitValue (getD bits 7 false)
-      ≡ byteOf bits
-  weights e = nested _ _ _ _ _ _ _ _ ∙ ap byteOf (eight false bits e)
+pub bit-back : (bits : List Bool) (k : ℕ) → bitAt k (byteOf bits) ≡ getD bits k false
+bit-back [] k = ap (λ (n : ℕ). eqb (n % 2) 1) (zero-div (2 ^ k))
+bit-back (true ∷ bits) zero = eq-eqb ((1 + 2 * byteOf bits) / 1 % 2) 1 (omega arith)
+bit-back (false ∷ bits) zero = ne-eqb ((0 + 2 * byteOf bits) / 1 % 2) 1 (omega arith)
+bit-back (bit ∷ bits) (suc k) =
+    let next : suc k ≡ 1 + k = omega arith in
+    ap (λ (n : ℕ). eqb (n % 2) 1)
+    (ap (λ (j : ℕ). (bitValue bit + 2 * byteOf bits) / 2 ^ j) next
+    ∙ sym (shr-shr (bitValue bit + 2 * byteOf bits) 1 k)
+    ∙ ap (λ (n : ℕ). n / 2 ^ k) (half bit (byteOf bits)))
+    ∙ bit-back bits k
+
+pub byte-below : (bits : List Bool) → byteOf bits < 2 ^ length bits
+byte-below [] = omega arith
+byte-below (bit ∷ bits) =
+    let more : suc (length bits) ≡ 1 + length bits = omega arith in
+    let twice : 2 ^ suc (length bits) ≡ 2 * 2 ^ length bits = ap (λ (n : ℕ). 2 ^ n) more ∙ pow-add 2 1 (length bits) in
+    rw twice (go bit (byte-below bits))
+  where
+    go : (b : Bool) → byteOf bits < 2 ^ length bits → bitValue b + 2 * byteOf bits < 2 * 2 ^ length bits
+    go true r = omega arith
+    go false r = omega arith

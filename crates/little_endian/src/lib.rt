@@ -1,10 +1,10 @@
 // Numbers of two and four bytes, and flags in a byte. Document 01: "many-byte numbers are little-endian", "bits from 0 as
-// the lowest". Rests on nothing.
+// the lowest". Rests on common, for laws.
 ghost use mathlib.Core.Path.{_≡_};
-ghost use Prim.Native.Nat.{_+_, _≤_, _<_};
+ghost use Prim.Native.Nat.{_+_, _*_, _≤_, _<_};
 ghost use lib.ListN.{length};
-ghost use Rattle.little_endian.specs.Numbers.{u16At, u32At, lowByte, highByte, lowHalf, highHalf};
-ghost use Rattle.little_endian.specs.Flags.{bitValue, byteOf};
+ghost use Rattle.little_endian.specs.Numbers.{u16At, u32At, lowByte, highByte, lowHalf, highHalf, u32Bytes};
+ghost use Rattle.little_endian.specs.Flags.{bitValue};
 
 // A byte as a wider number. The bound is stated because the sums below need it.
 fn widened(byte: u8) -> u16
@@ -57,23 +57,22 @@ pub fn high_half(x: u32) -> u16
     (x / 65536) as u16
 }
 
-// The bound is stated because the sum below needs it.
-fn bit_value(set: bool) -> u8
-    ensures { λ r. ⌜ (r ≡ bitValue set) × (r ≤ 1) ⌝ }
+pub fn u32_bytes(x: u32) -> [u8; 4]
+    ensures { λ r. ⌜ r ≡ u32Bytes x ⌝ }
 {
-    if set { 1 } else { 0 }
+    let low = low_half(x);
+    let high = high_half(x);
+    [
+        low_byte(low),
+        high_byte(low),
+        low_byte(high),
+        high_byte(high),
+    ]
 }
 
-// The byte that has the given bits, from bit 0 on.
-pub fn byte_of(bits: [bool; 8]) -> u8
-    ensures { λ r. ⌜ r ≡ byteOf bits ⌝ }
+// A flag in a byte that is the sum of its flags. The bound is stated because such sums need it.
+pub fn flag(set: bool, weight: u8) -> u8
+    ensures { λ r. ⌜ (r ≡ weight * bitValue set) × (r ≤ weight) ⌝ }
 {
-    bit_value(bits[0])
-        + 2 * bit_value(bits[1])
-        + 4 * bit_value(bits[2])
-        + 8 * bit_value(bits[3])
-        + 16 * bit_value(bits[4])
-        + 32 * bit_value(bits[5])
-        + 64 * bit_value(bits[6])
-        + 128 * bit_value(bits[7])
+    if set { weight } else { 0 }
 }

@@ -4,9 +4,9 @@ use mathlib.Core.Path.{_≡_, refl, ap, _∙_}
 use Prim.Native.Nat.{ℕ}
 use lib.ListN.{length, take, drop}
 use lib.Seq.{take-at, take-length}
-use Rattle.lead.specs.Hearing.{fresh}
+use Rattle.lead.specs.Leads.{fresh}
 use Rattle.lead_records.specs.States.{encode}
-use Rattle.post.specs.Parts.{joined}
+use Rattle.common.specs.Parts.{joined}
 use Rattle.post.specs.Heads.{headSize, headBytes}
 use Rattle.post.specs.Rules.{postBytes}
 use Rattle.post.specs.declared.head.Head.{Head}

@@ -11,23 +11,23 @@ use borrow.Author.Tests.{eq-eqb}
 use Rattle.little_endian.specs.Numbers.{byteAt, u16At, lowByte, highByte}
 use Rattle.little_endian.proofs.Spelled.{spelled-is}
 use Rattle.little_endian.proofs.Bytes.{u16-back, u32-back, low-byte-back, high-byte-back, low-half-back, high-half-back}
-use Rattle.readings.proofs.Tests.{is-true}
+use Rattle.common.proofs.Bools.{is-true}
 use Rattle.lead.specs.Good.{goodLead}
 use Rattle.lead.specs.declared.state.Lead.{Lead}
-use Rattle.lead.specs.Hearing.{fresh}
+use Rattle.lead.specs.Leads.{fresh}
 use Rattle.lead.proofs.Goodness.{fresh-good}
 use Rattle.lead_records.specs.States.{stateSize, decode, encode, goodState}
 use Rattle.lead_records.proofs.RoundTrip.{decode-encode, encode-decode, encode-length, encode-good, good-clear, good-lead}
-use Rattle.post.specs.Parts.{joined}
+use Rattle.common.specs.Parts.{joined}
 use Rattle.post.specs.Heads.{headSize, stateLength, headOf, headBytes, statePart}
 use Rattle.post.specs.Rules.{postBytes}
 use Rattle.post.specs.Refusals.{goodHead, goodPost}
 use Rattle.post.specs.Calls.{leadsOf}
 use Rattle.post.specs.declared.head.Head.{Head}
-use Rattle.post.proofs.Joined.{joined-same, joined-length, part-joined, records-back}
-use Rattle.post.proofs.Every.{every-of, every-at}
+use Rattle.common.proofs.Joined.{joined-same, joined-length, part-joined, records-back}
+use Rattle.common.proofs.Every.{every-of, every-at}
 use Rattle.post.proofs.FreshPosts.{head-length}
-use Rattle.post.proofs.Asked.{post-head, post-length, post-leads}
+use Rattle.post.proofs.Taken.{post-head, post-length, post-leads}
 
 -- the head, whatever stands behind it
 pub head-back : (h : Head) (rest : List ℕ) → headOf (headBytes h ++ rest) ≡ h

@@ -9,20 +9,21 @@ use lib.Dec.{ltb, eqb}
 use lib.ListN.{length, getD, set, take, drop}
 use lib.Seq.{getD-set-same, getD-set-other}
 use borrow.Author.Tests.{eqb-true, eqb-false, ltb-true, ltb-false, lt-ltb, le-ltb}
-use Rattle.sharing.specs.Level.{wantAt}
-use Rattle.lead.specs.Hearing.{fresh}
+use Rattle.sharing.specs.Level.{wantOf}
+use Rattle.lead.specs.Leads.{fresh}
 use Rattle.lead.specs.Power.{wantedWatts}
 use Rattle.lead.specs.declared.state.Ratings.{Ratings}
-use Rattle.lead.proofs.Bools.{at-or-past}
+use Rattle.common.proofs.Bools.{at-or-past}
 use Rattle.lead.proofs.Commands.{watts-are, want-0}
 use Rattle.lead_records.specs.States.{stateSize, decode}
 use Rattle.lead_records.specs.Inputs.{inputSize, inputOf}
 use Rattle.post.specs.Heads.{headSize, limitSize}
+use Rattle.post.specs.Rules.{tickInput}
 use Rattle.post.specs.Calls.{leadsOf}
 use Rattle.post.specs.Turns.{emptyTurn, decidedTurn, turnAt, among}
 use Rattle.post.specs.declared.head.Head.{Head}
 use Rattle.post.specs.declared.turns.Turn.{Turn}
-use Rattle.post.proofs.Joined.{cut}
+use Rattle.common.proofs.Joined.{cut}
 
 pub table-of-empty : {r : Turn} → r ≡ emptyTurn → (k : ℕ) → getD (r ∷ r ∷ r ∷ r ∷ []) k emptyTurn ≡ emptyTurn
 table-of-empty e zero = e
@@ -69,12 +70,12 @@ empty-wants c = watts-are c fresh ∙ ap (λ (n : ℕ). n * 0) (want-0 c fresh (
 -- the wants beside the turns: at first none, then one more of both
 module _ (c : Ratings) where
   abbrev pub Wanted : List Turn → List ℕ → Type 0
-  Wanted turns wants = (k : ℕ) → wantAt wants k ≡ wantedWatts c (getD turns k emptyTurn .lead)
+  Wanted turns wants = (k : ℕ) → wantOf wants k ≡ wantedWatts c (getD turns k emptyTurn .lead)
 
   pub wanted-none : (turns : List Turn) → ((k : ℕ) → getD turns k emptyTurn ≡ emptyTurn) → Wanted turns (0 ∷ 0 ∷ 0 ∷ 0 ∷ [])
   wanted-none turns empty k = zeros k ∙ sym (ap (λ (t : Turn). wantedWatts c (t .lead)) (empty k) ∙ empty-wants c)
     where
-      zeros : (k : ℕ) → wantAt (0 ∷ 0 ∷ 0 ∷ 0 ∷ []) k ≡ 0
+      zeros : (k : ℕ) → wantOf (0 ∷ 0 ∷ 0 ∷ 0 ∷ []) k ≡ 0
       zeros zero = refl
       zeros (suc zero) = refl
       zeros (suc (suc zero)) = refl
@@ -90,7 +91,7 @@ module _ (c : Ratings) where
       → Wanted (set turns i turn) (set wants i want)
   wanted-more i turns wants turn want room more e before k = go (eqb k i) refl
     where
-      go : (b : Bool) → eqb k i ≡ b → wantAt (set wants i want) k ≡ wantedWatts c (getD (set turns i turn) k emptyTurn .lead)
+      go : (b : Bool) → eqb k i ≡ b → wantOf (set wants i want) k ≡ wantedWatts c (getD (set turns i turn) k emptyTurn .lead)
       go true q =
           rw (eqb-true k i q, getD-set-same turns i turn emptyTurn room) (getD-set-same wants i want 0 more ∙ e)
       go false q =
@@ -105,6 +106,6 @@ module _ (h : Head) (state input : List ℕ) (i : ℕ) where
   inputRecord = take (limitSize + inputSize * i + inputSize - (limitSize + inputSize * i)) (drop (limitSize + inputSize * i) input)
 
   pub turn-cut :
-      decidedTurn (h .ratings) (decode stateRecord) (inputOf inputRecord (h .ratings .resistance)) ≡ turnAt h input (leadsOf state) i
+      decidedTurn (h .ratings) (decode stateRecord) (inputOf inputRecord (h .ratings .resistance)) ≡ turnAt h (tickInput input) (leadsOf state) i
   unfolding leadsOf
-  turn-cut = rw (cut headSize stateSize i state, cut limitSize inputSize i input)
+  turn-cut = rw (cut headSize stateSize i _ state refl, cut limitSize inputSize i _ input refl)

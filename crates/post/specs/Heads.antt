@@ -5,8 +5,9 @@ use Rattle.little_endian.specs.Numbers.{byteAt, u16At, u32At, u16Bytes, u32Byte
 use Rattle.lead_records.specs.States.{stateSize}
 use Rattle.lead_records.specs.Inputs.{inputSize}
 use Rattle.lead_records.specs.Outputs.{outputSize}
-use Rattle.post.specs.Parts.{part}
+use Rattle.common.specs.Parts.{part}
 use Rattle.post.specs.declared.head.Head.{Head}
+use Rattle.post.specs.declared.head.SetupNumbers.{SetupNumbers}
 
 -- "State: 8 bytes (…), then 32 a lead"
 abbrev pub headSize : ℕ
@@ -35,14 +36,17 @@ inputPart input k = part limitSize inputSize k input
 abbrev pub outputPart : List ℕ → ℕ → List ℕ
 outputPart output k = part 0 outputSize k output
 
--- the numbers that setup is given, in its order
-abbrev pub headFrom : ℕ → ℕ → ℕ → ℕ → Head
-headFrom leads volts amperes resistance =
-    record { leads = leads; ratings = record { volts = volts; amperes = amperes; resistance = resistance } }
+-- of the numbers that setup is given
+abbrev pub headFrom : SetupNumbers → Head
+headFrom n = record { leads = n .leads; ratings = record { volts = n .volts; amperes = n .amperes; resistance = n .resistance } }
 
 -- "leads; rated amperes; rated volts, 2; resistance as float, 4"
 unfoldable pub headOf : List ℕ → Head
-headOf state = headFrom (byteAt state 0) (u16At state 2) (byteAt state 1) (u32At state 4)
+headOf state =
+    record {
+      leads = byteAt state 0;
+      ratings = record { volts = u16At state 2; amperes = byteAt state 1; resistance = u32At state 4 };
+    }
 
 unfoldable pub headBytes : Head → List ℕ
 headBytes h = (h .leads ∷ h .ratings .amperes ∷ []) ++ u16Bytes (h .ratings .volts) ++ u32Bytes (h .ratings .resistance)

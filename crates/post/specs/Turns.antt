@@ -4,14 +4,14 @@ use mathlib.Core.List.{List}
 use Prim.Native.Nat.{ℕ}
 use lib.Dec.{ltb}
 use Rattle.readings.specs.declared.Judged.the-variants.{Good}
-use Rattle.lead.specs.Hearing.{fresh}
+use Rattle.lead.specs.Leads.{fresh}
 use Rattle.lead.specs.Moves.{decide}
 use Rattle.lead.specs.Power.{commanded}
 use Rattle.lead.specs.declared.state.Lead.{Lead}
 use Rattle.lead.specs.declared.state.Ratings.{Ratings}
 use Rattle.lead.specs.declared.state.Input.{Input}
 use Rattle.lead_records.specs.Outputs.{outputOf}
-use Rattle.post.specs.Rules.{inputAt}
+use Rattle.post.specs.Rules.{TickInput, inputAt}
 use Rattle.post.specs.declared.head.Head.{Head}
 use Rattle.post.specs.declared.turns.Turn.{Turn}
 
@@ -23,8 +23,8 @@ emptyTurn = record { lead = fresh; lock = false; reading = Good 0 0 }
 unfoldable pub decidedTurn : Ratings → Lead → Input → Turn
 decidedTurn c lead input = record { lead = decide c input lead; lock = input .contacts .lock; reading = input .reading }
 
-abbrev pub turnAt : Head → List ℕ → (ℕ → Lead) → ℕ → Turn
-turnAt h input leads k = decidedTurn (h .ratings) (leads k) (inputAt h input k)
+abbrev pub turnAt : Head → TickInput → (ℕ → Lead) → ℕ → Turn
+turnAt h i leads k = decidedTurn (h .ratings) (leads k) (inputAt h i k)
 
 -- the first n places of a family
 abbrev pub among : ℕ → (ℕ → Turn) → ℕ → Turn

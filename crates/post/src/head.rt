@@ -1,19 +1,28 @@
 // The head of a post's state, and what setup asks of it.
 use super::names::Refusal;
+use common::is_between;
+use common::unless;
 use lead::Ratings;
 use little_endian::high_byte;
-use little_endian::high_half;
 use little_endian::low_byte;
-use little_endian::low_half;
 use little_endian::u16_at;
 use little_endian::u32_at;
+use little_endian::u32_bytes;
 use readings::is_allowed_resistance;
 ghost use mathlib.Core.Path.{_≡_};
 ghost use Prim.Native.Nat.{_≤_};
 ghost use lib.ListN.{length};
-ghost use Rattle.lead.specs.Names.{between};
+ghost use Rattle.common.specs.Refusals.{refusalOf};
 ghost use Rattle.post.specs.Heads.{headSize, headFrom, headOf, headBytes};
-ghost use Rattle.post.specs.Refusals.{headRefusal, goodHead};
+ghost use Rattle.post.specs.Refusals.{headRows, goodHead};
+
+// The numbers that setup is given, none of them cut off. The resistance is the cable's, as its float's bits.
+pub struct SetupNumbers {
+    pub leads: u32,
+    pub volts: u32,
+    pub amperes: u32,
+    pub resistance: u32,
+}
 
 // How many leads there are, and what setup fixed for all of them.
 pub struct Head {
@@ -31,6 +40,21 @@ impl Head {
     const VOLTS: usize = 2;
 
     const RESISTANCE: usize = 4;
+
+    // Of numbers that setup does not refuse.
+    pub(crate) fn from_numbers(numbers: SetupNumbers) -> Head
+        requires { ⌜ refusalOf (headRows (headFrom numbers)) ≡ 0 ⌝ }
+        ensures { λ r. ⌜ r ≡ headFrom numbers ⌝ }
+    {
+        Head {
+            leads: numbers.leads as u8,
+            ratings: Ratings {
+                volts: numbers.volts as u16,
+                amperes: numbers.amperes as u8,
+                resistance: numbers.resistance,
+            },
+        }
+    }
 
     pub(crate) fn read(state: &[u8]) -> Head
         requires { ⌜ headSize ≤ length (now state) ⌝ }
@@ -50,55 +74,48 @@ impl Head {
         ensures { λ r. ⌜ r ≡ headBytes self ⌝ }
     {
         let ratings = self.ratings;
-        let low = low_half(ratings.resistance);
-        let high = high_half(ratings.resistance);
-        [
-            self.leads,
-            ratings.amperes,
-            low_byte(ratings.volts),
-            high_byte(ratings.volts),
-            low_byte(low),
-            high_byte(low),
-            low_byte(high),
-            high_byte(high),
-        ]
+        let resistance = u32_bytes(ratings.resistance);
+        let mut bytes = [0u8; Head::SIZE];
+        bytes[Head::LEADS] = self.leads;
+        bytes[Head::AMPERES] = ratings.amperes;
+        bytes[Head::VOLTS] = low_byte(ratings.volts);
+        bytes[Head::VOLTS + 1] = high_byte(ratings.volts);
+        bytes[Head::RESISTANCE] = resistance[0];
+        bytes[Head::RESISTANCE + 1] = resistance[1];
+        bytes[Head::RESISTANCE + 2] = resistance[2];
+        bytes[Head::RESISTANCE + 3] = resistance[3];
+        bytes
     }
 
     pub(crate) fn is_good(self) -> bool
         ensures { λ r. ⌜ r ≡ goodHead self ⌝ }
     {
         let ratings = self.ratings;
-        head_refusal(
-            self.leads as u32,
-            ratings.volts as u32,
-            ratings.amperes as u32,
-            ratings.resistance,
-        )
-            == 0
+        let numbers = SetupNumbers {
+            leads: self.leads as u32,
+            volts: ratings.volts as u32,
+            amperes: ratings.amperes as u32,
+            resistance: ratings.resistance,
+        };
+        head_refusal(numbers) == Refusal::NONE
     }
 }
 
-fn is_between(first: u32, last: u32, number: u32) -> bool
-    ensures { λ r. ⌜ r ≡ between first last number ⌝ }
+// Setup's questions 1 to 4.
+pub(crate) fn head_refusal(numbers: SetupNumbers) -> u32
+    ensures { λ r. ⌜ r ≡ refusalOf (headRows (headFrom numbers)) ⌝ }
 {
-    (first <= number) & (number <= last)
-}
-
-// The number of the first of setup's questions 1 to 4 that gets a no, 0 where none does.
-pub(crate) fn head_refusal(leads: u32, volts: u32, amperes: u32, resistance: u32) -> u32
-    ensures { λ r. ⌜ r ≡ headRefusal (headFrom leads volts amperes resistance) ⌝ }
-{
-    if !is_between(1, 4, leads) {
+    if !is_between(1, 4, numbers.leads) {
         return Refusal::LEADS;
     }
-    if !is_between(50, 500, volts) {
+    if !is_between(50, 500, numbers.volts) {
         return Refusal::RATED_VOLTS;
     }
-    if !is_between(1, 200, amperes) {
+    if !is_between(1, 200, numbers.amperes) {
         return Refusal::RATED_AMPERES;
     }
-    if !is_allowed_resistance(resistance) {
-        return Refusal::RESISTANCE;
-    }
-    Refusal::NONE
+    unless(
+        is_allowed_resistance(numbers.resistance),
+        Refusal::CABLE_RESISTANCE,
+    )
 }

@@ -1,5 +1,5 @@
 // The post: one to four leads, and the two calls of the C host. Document 01, 'The post's two calls'.
-// Rests on the promises of `lead`, `lead_records`, `sharing`, `readings`, `little_endian` and `bytes`.
+// Rests on the promises of `lead`, `lead_records`, `sharing`, `readings`, `little_endian`, `common` and `bytes`.
 mod head;
 mod lengths;
 mod names;
@@ -9,7 +9,7 @@ mod turns;
 mod written;
 
 use head::Head;
-use lead::Ratings;
+pub use head::SetupNumbers;
 pub use lengths::input_length;
 pub use lengths::output_length;
 pub use lengths::state_length;
@@ -33,20 +33,19 @@ pub extern "C" fn setup(
     state: &mut [u8],
 ) -> u32
     ensures { λ r. ⌜ _≡_ {A = SetUp} (record { number = r; state = now (state .exit) })
-        (setupOf (headFrom leads «rated_volts» «rated_amperes» resistance) (now (state .entry))) ⌝ }
+        (setupOf (headFrom (record { leads = leads; volts = «rated_volts»; amperes = «rated_amperes»; resistance = resistance }))
+        (now (state .entry))) ⌝ }
 {
+    let numbers = SetupNumbers {
+        leads,
+        volts: rated_volts,
+        amperes: rated_amperes,
+        resistance,
+    };
     let room = state.len();
-    let refusal = setup_refusal(leads, rated_volts, rated_amperes, resistance, room);
+    let refusal = setup_refusal(numbers, room);
     if refusal == Refusal::NONE {
-        let head = Head {
-            leads: leads as u8,
-            ratings: Ratings {
-                volts: rated_volts as u16,
-                amperes: rated_amperes as u8,
-                resistance,
-            },
-        };
-        write_fresh(head, state);
+        write_fresh(Head::from_numbers(numbers), state);
     }
     refusal
 }

@@ -11,7 +11,7 @@ impl Refusal {
 
     pub const RATED_AMPERES: u32 = 3;
 
-    pub const RESISTANCE: u32 = 4;
+    pub const CABLE_RESISTANCE: u32 = 4;
 
     pub const STATE_LENGTH: u32 = 5;
 

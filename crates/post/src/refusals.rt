@@ -1,39 +1,36 @@
 // What setup and tick ask before they do anything. Each answers with the number of the first no, 0 where there is none.
 use super::head::Head;
+use super::head::SetupNumbers;
 use super::head::head_refusal;
 use super::lengths::LIMIT_SIZE;
 use super::lengths::input_length;
 use super::lengths::output_length;
 use super::lengths::state_length;
 use super::names::Refusal;
+use common::unless;
 use lead_records::InputRecord;
 use lead_records::StateRecord;
 ghost use mathlib.Core.Path.{_≡_};
 ghost use lib.ListN.{length};
+ghost use Rattle.common.specs.Parts.{every};
+ghost use Rattle.common.specs.Refusals.{refusalOf};
 ghost use Rattle.lead_records.specs.States.{goodState};
 ghost use Rattle.lead_records.specs.Inputs.{goodInput};
-ghost use Rattle.post.specs.Parts.{every};
 ghost use Rattle.post.specs.Heads.{stateLength, inputLength, headFrom, statePart, inputPart};
-ghost use Rattle.post.specs.Refusals.{setupRefusal, goodPost, inputRefusal, tickRefusal};
+ghost use Rattle.post.specs.Refusals.{setupRows, goodPost, inputRows, tickRows};
 
 // The room is the state's length.
-pub(crate) fn setup_refusal(
-    leads: u32,
-    volts: u32,
-    amperes: u32,
-    resistance: u32,
-    room: usize,
-) -> u32
-    ensures { λ r. ⌜ r ≡ setupRefusal (headFrom leads volts amperes resistance) room ⌝ }
+pub(crate) fn setup_refusal(numbers: SetupNumbers, room: usize) -> u32
+    ensures { λ r. ⌜ r ≡ refusalOf (setupRows (headFrom numbers) room) ⌝ }
 {
-    let refusal = head_refusal(leads, volts, amperes, resistance);
+    let refusal = head_refusal(numbers);
     if refusal != Refusal::NONE {
         return refusal;
     }
-    if room != state_length(leads as u8) {
-        return Refusal::STATE_LENGTH;
-    }
-    Refusal::NONE
+    unless(
+        room == state_length(numbers.leads as u8),
+        Refusal::STATE_LENGTH,
+    )
 }
 
 fn are_good_states(head: Head, state: &[u8]) -> bool
@@ -86,7 +83,7 @@ fn are_good_inputs(leads: u8, input: &[u8]) -> bool
 
 // The room is the output's length.
 fn input_refusal(leads: u8, input: &[u8], room: usize) -> u32
-    ensures { λ r. ⌜ r ≡ inputRefusal leads (now (input .entry)) room ⌝ }
+    ensures { λ r. ⌜ r ≡ refusalOf (inputRows leads (now (input .entry)) room) ⌝ }
 {
     if input.len() != input_length(leads) {
         return Refusal::INPUT_LENGTH;
@@ -94,14 +91,11 @@ fn input_refusal(leads: u8, input: &[u8], room: usize) -> u32
     if room != output_length(leads) {
         return Refusal::OUTPUT_LENGTH;
     }
-    if !are_good_inputs(leads, input) {
-        return Refusal::INPUT;
-    }
-    Refusal::NONE
+    unless(are_good_inputs(leads, input), Refusal::INPUT)
 }
 
 pub(crate) fn tick_refusal(state: &[u8], input: &[u8], room: usize) -> u32
-    ensures { λ r. ⌜ r ≡ tickRefusal (now (state .entry)) (now (input .entry)) room ⌝ }
+    ensures { λ r. ⌜ r ≡ refusalOf (tickRows (now (state .entry)) (now (input .entry)) room) ⌝ }
 {
     if !is_good_post(state) {
         return Refusal::STATE;

@@ -6,16 +6,20 @@ use little_endian::u32_at;
 use sharing::level;
 ghost use mathlib.Core.Path.{_≡_};
 ghost use lib.ListN.{length};
-ghost use Rattle.post.specs.Refusals.{tickRefusal};
-ghost use Rattle.post.specs.Calls.{stateAfter, outputAfter};
+ghost use Rattle.common.specs.Refusals.{refusalOf};
+ghost use Rattle.post.specs.Heads.{headOf};
+ghost use Rattle.post.specs.Rules.{tickInput, shownAfter};
+ghost use Rattle.post.specs.Refusals.{tickRows};
+ghost use Rattle.post.specs.Calls.{leadsOf, stateAfter};
 
 // Where the power limit stands in the input.
 const LIMIT: usize = 0;
 
 pub(crate) fn carry_out(state: &mut [u8], input: &[u8], output: &mut [u8])
-    requires { ⌜ tickRefusal (now state) (now input) (length (now output)) ≡ 0 ⌝ }
-    ensures { λ _. ⌜ now (state .exit) ≡ stateAfter (now (state .entry)) (now (input .entry)) ⌝ }
-    ensures { λ _. ⌜ now (output .exit) ≡ outputAfter (now (state .entry)) (now (input .entry)) ⌝ }
+    requires { ⌜ refusalOf (tickRows (now state) (now input) (length (now output))) ≡ 0 ⌝ }
+    ensures { λ _. ⌜ now (state .exit) ≡ stateAfter (now (state .entry)) (tickInput (now (input .entry))) ⌝ }
+    ensures { λ _. ⌜ now (output .exit)
+        ≡ shownAfter (headOf (now (state .entry))) (tickInput (now (input .entry))) (leadsOf (now (state .entry))) ⌝ }
 {
     let head = Head::read(state);
     let limit = u32_at(input, LIMIT);

@@ -12,11 +12,12 @@ ghost use mathlib.Core.Bool.{true};
 ghost use Prim.Native.Nat.{ℕ, _≤_};
 ghost use lib.ListN.{length, getD};
 ghost use Rattle.readings.specs.Readings.{allowedResistance};
-ghost use Rattle.sharing.specs.Level.{places, wantAt};
+ghost use Rattle.sharing.specs.Level.{places, wantOf};
 ghost use Rattle.lead.specs.Power.{wantedWatts};
 ghost use Rattle.lead_records.specs.States.{stateSize, decode};
 ghost use Rattle.lead_records.specs.Inputs.{inputSize, inputOf};
 ghost use Rattle.post.specs.Heads.{stateLength, inputLength};
+ghost use Rattle.post.specs.Rules.{tickInput};
 ghost use Rattle.post.specs.Calls.{leadsOf};
 ghost use Rattle.post.specs.Turns.{emptyTurn, decidedTurn, turnAt, among, commandedTurn};
 
@@ -62,13 +63,13 @@ impl Turn {
     }
 
     // From a lead's records of state and input.
-    fn decided(ratings: Ratings, state: &[u8], given: &[u8]) -> Turn
-        requires { ⌜ (length (now state) ≡ stateSize) × (length (now given) ≡ inputSize) ⌝ }
+    fn decided(ratings: Ratings, state: &[u8], input: &[u8]) -> Turn
+        requires { ⌜ (length (now state) ≡ stateSize) × (length (now input) ≡ inputSize) ⌝ }
         requires { ⌜ allowedResistance (ratings .resistance) ≡ true ⌝ }
         ensures { λ r. ⌜ r ≡ decidedTurn ratings (decode (now (state .entry)))
-            (inputOf (now (given .entry)) (ratings .resistance)) ⌝ }
+            (inputOf (now (input .entry)) (ratings .resistance)) ⌝ }
     {
-        let input = InputRecord::read(given, ratings.resistance);
+        let input = InputRecord::read(input, ratings.resistance);
         let reading = input.reading;
         Turn {
             lead: StateRecord::read(state).decide(ratings, input),
@@ -89,8 +90,8 @@ pub(crate) fn decide_all(head: Head, state: &[u8], input: &[u8]) -> Decided
     requires { ⌜ (head .leads ≤ places) × (allowedResistance (head .ratings .resistance) ≡ true) ⌝ }
     requires { ⌜ (length (now state) ≡ stateLength (head .leads)) × (length (now input) ≡ inputLength (head .leads)) ⌝ }
     ensures { λ r. ⌜ ((k : ℕ) → getD (r .turns) k emptyTurn
-        ≡ among (head .leads) (turnAt head (now (input .entry)) (leadsOf (now (state .entry)))) k) ⌝ }
-    ensures { λ r. ⌜ ((k : ℕ) → wantAt (r .wants) k ≡ wantedWatts (head .ratings) (getD (r .turns) k emptyTurn .lead)) ⌝ }
+        ≡ among (head .leads) (turnAt head (tickInput (now (input .entry))) (leadsOf (now (state .entry)))) k) ⌝ }
+    ensures { λ r. ⌜ ((k : ℕ) → wantOf (r .wants) k ≡ wantedWatts (head .ratings) (getD (r .turns) k emptyTurn .lead)) ⌝ }
 {
     let mut turns = [Turn::empty(); PLACES];
     let mut wants = [0u32; PLACES];

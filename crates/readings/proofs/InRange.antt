@@ -13,7 +13,8 @@ use lib.Ieee.Back.{round-whole}
 use lib.Ieee.Exact.{HasValue}
 use lib.Ieee.Order.{le-of-values}
 use Rattle.readings.specs.Value.{number, within}
-use Rattle.readings.proofs.Tests.{either, or-left}
+use mir.Facts.{or-yes}
+use Rattle.common.proofs.Bools.{or-l}
 
 pub lower : (top : ℕ) (x : Float) → T (within top x) → T (le (number 0) x)
 lower top x t = and-l (le (number 0) x) (le x (number top)) t
@@ -41,7 +42,7 @@ minus-zero m e t =
     sym (mul-one (m * up e)) ∙ sym h ∙ zero-mul (down e)
 
 pub at-most : (a b : ℕ) (z : Bool) → T (ltb a b || (eqb a b && z)) → a ≤ b
-at-most a b z t = elim (either (ltb a b) (eqb a b && z) t) [
+at-most a b z t = elim (or-yes (ltb a b) (eqb a b && z) t) [
   | inl l ↦ (let h : a < b = ltb→lt a b l in omega arith)
   | inr r ↦ le-of-eq (eqb→eq a b (and-l (eqb a b) z r))
 ]
@@ -63,7 +64,7 @@ exact n h = round-whole binary32 false n h
 
 pub minus-below : (m : ℕ) (e : ℤ) → T (le (fin true m e) (number 1000))
 unfolding le lt eq ofInt
-minus-below m e = or-left (lt (fin true m e) (number 1000)) (eq (fin true m e) (number 1000)) (lt→ltb 0 (m * up e * 1 + 1000 * down e) (let p : 0 < down e = down-pos e in omega arith))
+minus-below m e = or-l (lt (fin true m e) (number 1000)) (eq (fin true m e) (number 1000)) (lt→ltb 0 (m * up e * 1 + 1000 * down e) (let p : 0 < down e = down-pos e in omega arith))
 
 -- from 0 to a float whose value is n
 cap : (n : ℕ) (x y : Float) → n ≤ 1000 → HasValue y false n 1 → T (le (number 0) x) → T (le x y) → T (le x (number 1000))

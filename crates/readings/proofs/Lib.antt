@@ -1,5 +1,4 @@
 -- Laws that several proofs share, from the plainest on.
-pub mod Tests
 pub mod Ceiling
 pub mod InRange
 pub mod Least

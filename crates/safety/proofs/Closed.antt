@@ -6,10 +6,10 @@ use mathlib.Core.Path.{_≡_, _∙_}
 use Prim.Native.Nat.{ℕ, zero, suc, _≤_, _<_}
 use native.Mathlib.Omega.{arith}
 use lib.Dec.{T}
-use Rattle.lead.specs.Names.{between}
+use Rattle.common.specs.Tests.{between}
 use Rattle.lead.specs.declared.state.Lead.{Lead}
 use Rattle.lead.specs.declared.state.Input.{Input}
-use Rattle.lead.proofs.Bools.{between-of, between-lo, between-hi, at-or-past}
+use Rattle.common.proofs.Bools.{between-of, between-lo, between-hi, at-or-past}
 use Rattle.lead.proofs.Ticks.{phaseAfter}
 use Rattle.lead.proofs.WholeTicks.{Live, ends-live, out-of-2, out-of-3}
 use Rattle.lead_records.proofs.Shown.{input-contacts}

@@ -8,14 +8,14 @@ use Prim.Native.Nat.{ℕ, zero, suc, _-_, _≤_, _<_, min}
 use native.Mathlib.Omega.{arith}
 use lib.Dec.{T, eqb, eqb→eq}
 use lib.Ieee.Fits.{and-l, and-r}
-use Rattle.readings.proofs.Tests.{either}
+use mir.Facts.{or-yes}
 use Rattle.frames.specs.declared.heard.StatusFrame.{StatusFrame}
 use Rattle.frames.specs.declared.heard.StatusFrame.the-variants.{Heard, Absent}
 use Rattle.frames.specs.declared.heard.VehicleStatus.{VehicleStatus}
-use Rattle.lead.specs.Names.{between}
+use Rattle.common.specs.Tests.{between}
 use Rattle.lead.specs.Hearing.{hearStatus, silenceAfter}
 use Rattle.lead.specs.declared.state.Car.{Car}
-use Rattle.lead.proofs.Bools.{mp, between-of, between-lo, between-hi}
+use Rattle.common.proofs.Bools.{mp, between-of, between-lo, between-hi}
 use Rattle.lead.proofs.Hears.{hear-status, hear-silence, status-heard, status-absent, silence-heard, silence-absent}
 use Rattle.lead.proofs.Phases.{into1-8, into-1-8, into2-7, into-2-7}
 use Rattle.lead.proofs.Ticks.{move-met}
@@ -116,7 +116,7 @@ module _ (h : Head) (ticks : List Tick) (k : ℕ) where
     listened : T (between 1 8 q) → T (before (suc t) .status .seen) → T (between 1 8 p)
     listened w s =
         go
-        (either (between 1 8 p) (eqb p 0 && eqb q 1)
+        (or-yes (between 1 8 p) (eqb p 0 && eqb q 1)
         (mp (between 1 8 q) (between 1 8 p || eqb p 0 && eqb q 1) (in-tick h ticks k into1-8 into-1-8 t) w))
       where
         go : T (between 1 8 p) ⊎ T (eqb p 0 && eqb q 1) → T (between 1 8 p)
@@ -130,7 +130,7 @@ module _ (h : Head) (ticks : List Tick) (k : ℕ) where
     seen-next : T (between 2 7 q) → (T (between 2 7 p) → T (before t .status .seen)) → T (before (suc t) .status .seen)
     seen-next w seen =
         go
-        (either (between 2 7 p) (eqb p 1 && mayMoveAt h ticks k t)
+        (or-yes (between 2 7 p) (eqb p 1 && mayMoveAt h ticks k t)
         (mp (between 2 7 q) (between 2 7 p || eqb p 1 && mayMoveAt h ticks k t) (in-tick h ticks k into2-7 into-2-7 t) w))
       where
         go : T (between 2 7 p) ⊎ T (eqb p 1 && mayMoveAt h ticks k t) → T (before (suc t) .status .seen)

@@ -12,7 +12,7 @@ use Rattle.safety.specs.Demand3.{commandAt, leadsBefore, thresholdAt, co
 use Rattle.safety.proofs.Closed.{stayed-closed}
 use Rattle.safety.proofs.Raises.{raises-only}
 use Rattle.safety.proofs.Shares.{allowance, share, equal-part}
-use Rattle.safety.proofs.Zeros.{FallsSilent, urgent, ordinary, stays-silent}
+use Rattle.safety.proofs.Zeros.{FallsSilent, silent-at-once, silent-later, stays-silent}
 
 -- of what setup accepts, only the bound on rated amperes is used
 module _
@@ -43,8 +43,8 @@ module _
             (λ k y. rw (shown t k x y) (omega arith)))
             (allowance h ticks t);
         share = λ t k x y w. rw (shown t k x y) (share h ticks t k _ (omega (arith, equal-part h ticks t)));
-        urgent = λ t k n x y u said. zeroed t t k y (urgent h ticks k t n said u);
-        ordinary = λ t k n x y said. zeroed t _ k y (ordinary h ticks k t n said _ (omega arith));
+        zero-at-once = λ t k n x y u said. zeroed t t k y (silent-at-once h ticks k t n said u);
+        zero-by-the-20th = λ t k n x y said. zeroed t _ k y (silent-later h ticks k t n said _ (omega arith));
         stays-zero =
             λ t k n x y said u v a z b w.
             rw (shown v k w y) (stays-silent h ticks k t n said u v a (sym (shown u k (omega arith) y) ∙ z) b);

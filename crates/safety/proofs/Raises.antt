@@ -9,7 +9,7 @@ use lib.Ieee.Fits.{and-i}
 use Rattle.frames.specs.Heard.{signalsOf}
 use Rattle.frames.specs.declared.heard.VehicleStatus.{VehicleStatus}
 use Rattle.frames.specs.declared.heard.VehicleSignals.{VehicleSignals}
-use Rattle.lead.proofs.Bools.{between-of, between-lo, between-hi}
+use Rattle.common.proofs.Bools.{between-of, between-lo, between-hi}
 use Rattle.lead.proofs.WholeTicks.{Permitted, ends-permitted}
 use Rattle.post.specs.declared.head.Head.{Head}
 use Rattle.safety.specs.Lists.{Tick}

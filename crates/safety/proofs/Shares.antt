@@ -3,9 +3,9 @@ use mathlib.Core.List.{List}
 use Prim.Native.Nat.{ℕ, zero, suc, _*_, _/_, _≤_, min}
 use native.Mathlib.Nat.{le-trans, div-zero, div-mul-le-self, le-div-iff-mul-le}
 use native.Mathlib.Omega.{arith}
-use Rattle.sharing.specs.Level.{sum, given, equalPart}
+use Rattle.sharing.specs.Level.{sum, equalPart}
 use Rattle.sharing.proofs.Sums.{sum-le}
-use Rattle.sharing.proofs.Laws.{given-is, level-fits, level-shares}
+use Rattle.sharing.proofs.Laws.{total-is, level-fits, level-shares}
 use Rattle.lead.specs.declared.state.Lead.{Lead}
 use Rattle.lead.proofs.Commands.{command-threshold, command-is, command-watts}
 use Rattle.post.specs.Rules.{decidedAt, levelAfter, leadAfter}
@@ -24,7 +24,7 @@ module _ (h : Head) (ticks : List Tick) (t : ℕ) where
   level = levelAt h ticks t
 
   abbrev decided : ℕ → Lead
-  decided k = decidedAt h (demand.given h ticks t) (leadsBefore h ticks t) k
+  decided k = decidedAt h (demand.inputsAt h ticks t) (leadsBefore h ticks t) k
 
   carried : (k : ℕ) → command h ticks k t * thresholdAt h ticks t k ≤ min (wantAt h ticks t k) level
   unfolding leadAfter
@@ -36,7 +36,7 @@ module _ (h : Head) (ticks : List Tick) (t : ℕ) where
       omega (
         arith,
         sum-le (h .leads) (λ k. command h ticks k t * thresholdAt h ticks t k) (λ k. min (wantAt h ticks t k) level) (λ k x. carried k),
-        given-is (h .leads) (wantAt h ticks t) level,
+        total-is (h .leads) (wantAt h ticks t) level,
         level-fits (h .leads) (wantAt h ticks t) (limitAt h ticks t),
       )
 

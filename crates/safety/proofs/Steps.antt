@@ -6,14 +6,15 @@ use mathlib.Core.Path.{_≡_, refl, sym, subst, ap, _∙_}
 use Prim.Native.Nat.{ℕ, zero, suc, _-_, _≤_, _<_, min}
 use native.Mathlib.Omega.{arith}
 use lib.Dec.{T}
-use Rattle.lead.specs.Names.{between}
-use Rattle.lead.specs.Hearing.{blank, hear}
+use Rattle.common.specs.Tests.{between}
+use Rattle.lead.specs.Hearing.{hear}
+use Rattle.lead.specs.Leads.{blank}
 use Rattle.lead.specs.Moves.{decide}
 use Rattle.lead.specs.declared.state.Lead.{Lead}
 use Rattle.lead.specs.declared.state.Car.{Car}
 use Rattle.lead.specs.declared.state.Input.{Input}
 use Rattle.lead.specs.declared.questions.Verdict.{Verdict}
-use Rattle.lead.proofs.Bools.{between-lo, between-hi, at-or-past}
+use Rattle.common.proofs.Bools.{between-lo, between-hi, at-or-past}
 use Rattle.lead.proofs.Phases.{Test, Everywhere}
 use Rattle.lead.proofs.Answers.{verdict}
 use Rattle.lead.proofs.Ticks.{may, phaseAfter, started}
@@ -22,7 +23,7 @@ use Rattle.lead.proofs.WholeTicks as whole
 use Rattle.post.specs.Rules.{inputAt, decidedAt, levelAfter, leadAfter}
 use Rattle.post.specs.declared.head.Head.{Head}
 use Rattle.safety.specs.Lists.{Tick}
-use Rattle.safety.specs.Demand3.{given, leadsBefore}
+use Rattle.safety.specs.Demand3.{inputsAt, leadsBefore}
 
 -- a fact of every tick before t, and of t
 pub one-more : {P : ℕ → Type 0} (t : ℕ) → ((u : ℕ) → u < t → P u) → P t → (u : ℕ) → u < suc t → P u
@@ -34,7 +35,7 @@ one-more {P} t before now u x = go (at-or-past u t (omega arith))
 
 -- the level of tick t
 abbrev pub levelAt : Head → List Tick → ℕ → ℕ
-levelAt h ticks t = levelAfter h (given h ticks t) (leadsBefore h ticks t)
+levelAt h ticks t = levelAfter h (inputsAt h ticks t) (leadsBefore h ticks t)
 
 module _ (h : Head) (ticks : List Tick) (k : ℕ) where
   -- before tick t
@@ -46,10 +47,10 @@ module _ (h : Head) (ticks : List Tick) (k : ℕ) where
 
   -- in it
   abbrev pub input : ℕ → Input
-  input t = inputAt h (given h ticks t) k
+  input t = inputAt h (inputsAt h ticks t) k
 
   abbrev pub heardCar : ℕ → Car
-  heardCar t = hear (input t) (lead t) .car
+  heardCar t = hear (input t) (lead t) .lead .car
 
   abbrev pub verdictAt : ℕ → Verdict
   verdictAt t = verdict (h .ratings) (input t) (lead t)

@@ -10,9 +10,9 @@ use native.Mathlib.Omega.{arith}
 use lib.Dec.{T, eqb, eqb→eq}
 use lib.Ieee.Fits.{and-i, and-l, and-r}
 use borrow.Author.Tests.{eq-eqb}
-use Rattle.readings.proofs.Tests.{holds, either}
-use Rattle.lead.specs.Names.{between}
-use Rattle.lead.proofs.Bools.{mp, between-lo, between-hi, at-or-past}
+use mir.Facts.{or-yes}
+use Rattle.common.proofs.Bools.{holds, mp, between-lo, between-hi, at-or-past}
+use Rattle.common.specs.Tests.{between}
 use Rattle.lead.proofs.Phases.{isPass, isUrgent, from0, from-0, from7-10, from-7-10, stopped, stopped-into, urgentlyStopped, urgent-into}
 use Rattle.lead.proofs.Answers.{no-is-stop, no-is-urgent, no-in-1-8}
 use Rattle.lead.proofs.Ticks.{move-met}
@@ -85,7 +85,7 @@ module _ (h : Head) (ticks : List Tick) (k : ℕ) where
     down-next : Down t v → Down t (suc v) ⊎ Anew t (suc v)
     down-next (ending w) =
         go
-        (either (between 7 10 q) (eqb p 10 && eqb q 0 && may)
+        (or-yes (between 7 10 q) (eqb p 10 && eqb q 0 && may)
         (mp (between 7 10 p) (between 7 10 q || eqb p 10 && eqb q 0 && may) (in-tick h ticks k from7-10 from-7-10 (suc v)) w))
       where
         go : T (between 7 10 q) ⊎ T (eqb p 10 && eqb q 0 && may) → Down t (suc v) ⊎ Anew t (suc v)
@@ -98,7 +98,7 @@ module _ (h : Head) (ticks : List Tick) (k : ℕ) where
             inl (unplugged idle (suc v) (omega arith) (omega arith) (rw input-contacts at (met .out-of-10 ten)) (ten, idle))
     down-next (unplugged idle u after sooner pulled reset) =
         go
-        (either (eqb q 0) (eqb q 1)
+        (or-yes (eqb q 0) (eqb q 1)
         (mp (eqb p 0) (eqb q 0 || eqb q 1) (in-tick h ticks k from0 from-0 (suc v)) (holds (eq-eqb p 0 idle))))
       where
         go : T (eqb q 0) ⊎ T (eqb q 1) → Down t (suc v) ⊎ Anew t (suc v)
@@ -177,8 +177,8 @@ module _ (h : Head) (ticks : List Tick) (k : ℕ) where
         go (inl r) = from-u (falling t u x (r .0) v y)
         go (inr anew) = before-or-silent t v (le-ind (Anew t) anew (λ w z. anew-next t w (omega arith)) v y)
 
-    pub urgent : T (isUrgentQuestion n) → FallsSilent t t
-    urgent u =
+    pub silent-at-once : T (isUrgentQuestion n) → FallsSilent t t
+    silent-at-once u =
         let past-8 : T (between 9 10 (phase (suc t))) =
         mp (between 1 8 (phase t) && isUrgent (verdictAt h ticks k t)) (between 9 10 (phase (suc t)))
         (in-tick h ticks k urgentlyStopped urgent-into t)
@@ -192,8 +192,8 @@ module _ (h : Head) (ticks : List Tick) (k : ℕ) where
         }
 
     -- 10 A a tick, from the rating down; or unplugged sooner, and then 0 in the tick that unplugs
-    pub ordinary : (ticks-later : ℕ) → h .ratings .amperes ≤ 10 * (ticks-later + 1) → FallsSilent t (t + ticks-later)
-    ordinary m rated = go (falling t t (omega arith) stops (t + m) (omega arith))
+    pub silent-later : (ticks-later : ℕ) → h .ratings .amperes ≤ 10 * (ticks-later + 1) → FallsSilent t (t + ticks-later)
+    silent-later m rated = go (falling t t (omega arith) stops (t + m) (omega arith))
       where
         go : Falling t t (t + m) → FallsSilent t (t + m)
         go (inl r) =

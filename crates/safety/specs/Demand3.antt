@@ -1,31 +1,31 @@
 -- Demand 3 of document 00, field by field; its words are defined as document 01's 'Demand 3, word by word' defines them. Definitions only.
 use mathlib.Core.Bool.{Bool, not, _&&_}
-use mathlib.Core.List.{List, []}
+use mathlib.Core.List.{List, [], _∷_}
 use mathlib.Core.Logic.{_⊎_}
 use mathlib.Core.Path.{_≡_}
 use Prim.Native.Nat.{ℕ, zero, suc, _+_, _*_, _/_, _≤_, _<_, min}
 use lib.Dec.{T}
 use lib.ListN.{getD, length}
+use Rattle.common.specs.Tests.{between}
 use Rattle.little_endian.specs.Numbers.{byteAt}
 use Rattle.frames.specs.Heard.{newestStatus, signalsOf}
 use Rattle.frames.specs.declared.heard.StatusFrame.{StatusFrame}
 use Rattle.frames.specs.declared.heard.StatusFrame.the-variants.{Heard, Absent}
 use Rattle.frames.specs.declared.heard.VehicleStatus.{VehicleStatus}
 use Rattle.sharing.specs.Level.{sum, equalPart}
-use Rattle.lead.specs.Names.{between}
-use Rattle.lead.specs.Hearing.{fresh}
+use Rattle.lead.specs.Leads.{fresh}
 use Rattle.lead.specs.Questions.{gotNo}
 use Rattle.lead.specs.declared.state.Lead.{Lead}
 use Rattle.lead.specs.declared.state.Contacts.{Contacts}
 use Rattle.lead_records.specs.Inputs.{contactsOf, frameRecords}
-use Rattle.post.specs.Heads.{inputPart, outputPart}
-use Rattle.post.specs.Rules.{limitOf, inputAt, wantAfter, leadAfter}
+use Rattle.post.specs.Heads.{outputPart}
+use Rattle.post.specs.Rules.{TickInput, tickInput, inputAt, wantAfter, leadAfter}
 use Rattle.post.specs.declared.head.Head.{Head}
-use Rattle.safety.specs.Lists.{Tick}
+use Rattle.safety.specs.Lists.{Tick, Stretch}
 
 -- past the end of a list
 abbrev pub noTick : Tick
-noTick = record { input = []; output = [] }
+noTick = record { input = tickInput []; output = [] }
 
 -- "It permits if faults and system fault are clear and it says enabled, in park, contactor closed and no stop request."
 abbrev pub permits : VehicleStatus → Bool
@@ -38,9 +38,9 @@ isUrgentQuestion n = between 11 18 n
 
 -- The list: what setup fixed, and the ticks that returned 0. Ticks and leads are numbered from 0.
 module _ (h : Head) (ticks : List Tick) where
-  -- the tick's raw input
-  abbrev pub given : ℕ → List ℕ
-  given t = getD ticks t noTick .input
+  -- what the tick is given
+  abbrev pub inputsAt : ℕ → TickInput
+  inputsAt t = getD ticks t noTick .input
 
   -- "Commands are the outputs'": byte 2 of what the lead shows
   abbrev pub commandAt : ℕ → ℕ → ℕ
@@ -50,7 +50,7 @@ module _ (h : Head) (ticks : List Tick) where
   -- before tick t, from fresh ones on
   abbrev pub leadsBefore : ℕ → ℕ → Lead
   leadsBefore zero = λ k. fresh
-  leadsBefore (suc t) = leadAfter h (given t) (leadsBefore t)
+  leadsBefore (suc t) = leadAfter h (inputsAt t) (leadsBefore t)
 
   abbrev pub phaseBefore : ℕ → ℕ → ℕ
   phaseBefore t k = leadsBefore t k .stage .phase
@@ -63,25 +63,25 @@ module _ (h : Head) (ticks : List Tick) where
 
   -- in watts
   abbrev pub wantAt : ℕ → ℕ → ℕ
-  wantAt t = wantAfter h (given t) (leadsBefore t)
+  wantAt t = wantAfter h (inputsAt t) (leadsBefore t)
 
   abbrev pub limitAt : ℕ → ℕ
-  limitAt t = limitOf (given t)
+  limitAt t = inputsAt t .limit
 
   -- question n is asked in the tick and gets a no
   abbrev pub NoAt : ℕ → ℕ → ℕ → Type 0
-  NoAt t k n = T (gotNo (h .ratings) (inputAt h (given t) k) (leadsBefore t k) n)
+  NoAt t k n = T (gotNo (h .ratings) (inputAt h (inputsAt t) k) (leadsBefore t k) n)
 
   -- the tick moves the lead from one phase to another
   abbrev pub Moves : ℕ → ℕ → ℕ → ℕ → Type 0
   Moves t k from to = (phaseBefore t k ≡ from) × (phaseAt t k ≡ to)
 
   abbrev pub contactsAt : ℕ → ℕ → Contacts
-  contactsAt t k = contactsOf (byteAt (inputPart (given t) k) 0)
+  contactsAt t k = contactsOf (byteAt (inputsAt t .records k) 0)
 
   -- the last H'102 of length 8 in the tick's input, records past the count left out
   abbrev pub statusAt : ℕ → ℕ → StatusFrame
-  statusAt t k = newestStatus (byteAt (inputPart (given t) k) 2) (frameRecords (inputPart (given t) k))
+  statusAt t k = newestStatus (byteAt (inputsAt t .records k) 2) (frameRecords (inputsAt t .records k))
 
   pub record Closed (t k : ℕ) : Type 0 where
     pub plug : T (contactsAt t k .plug)
@@ -159,7 +159,12 @@ module _ (h : Head) (ticks : List Tick) where
         → T (between 6 7 (phaseAt t k))
         → min (wantAt t k) (equalPart (h .leads) (wantAt t) (limitAt t)) / thresholdAt t k ≤ commandAt t k
     -- "After a stop question gets a no, it commands zero in that tick if urgent, by the 20th otherwise, that tick being the first."
-    pub urgent : (t k n : ℕ) → t < length ticks → k < h .leads → T (isUrgentQuestion n) → NoAt t k n → Zeroed t t k
-    pub ordinary : (t k n : ℕ) → t < length ticks → k < h .leads → NoAt t k n → Zeroed t (t + 19) k
+    pub zero-at-once : (t k n : ℕ) → t < length ticks → k < h .leads → T (isUrgentQuestion n) → NoAt t k n → Zeroed t t k
+    pub zero-by-the-20th : (t k n : ℕ) → t < length ticks → k < h .leads → NoAt t k n → Zeroed t (t + 19) k
     -- "There it stays until unplugged and then started anew."
     pub stays-zero : (t k n : ℕ) → t < length ticks → k < h .leads → NoAt t k n → StaysZero t k
+
+-- demand 3 of every stretch of a list
+abbrev pub EachStretch : List Stretch → Type 0
+EachStretch [] = Unit
+EachStretch (stretch ∷ rest) = Demand3 (stretch .head) (stretch .ticks) × EachStretch rest

@@ -1,8 +1,9 @@
 -- Lists of the host's calls, carried out by `setupOf` and `tickOf`, which the contracts of the two exported functions name. Definitions only.
 use mathlib.Core.Bool.{cond}
-use mathlib.Core.List.{List, [], _∷_}
+use mathlib.Core.List.{List, [], _∷_, _++_}
 use Prim.Native.Nat.{ℕ}
 use lib.Dec.{eqb}
+use Rattle.post.specs.Rules.{TickInput, tickInput}
 use Rattle.post.specs.Calls.{SetUp, setupOf, Ticked, tickOf}
 use Rattle.post.specs.declared.head.Head.{Head}
 
@@ -12,28 +13,28 @@ pub data Call : Type 0 where
   tick : (input output : List ℕ) → Call
 
 -- what a call returns and leaves: the post's state, and the call's own buffer (a setup's, or a tick's output)
-pub record Answer : Type 0 where
+pub record Outcome : Type 0 where
   pub number : ℕ
   pub state : List ℕ
   pub lent : List ℕ
 
 -- Accepted, a setup's buffer becomes the state; refused, the post keeps its state.
-unfoldable pub answer : List ℕ → Call → Answer
-answer state (setup h buffer) =
+unfoldable pub outcome : List ℕ → Call → Outcome
+outcome state (setup h buffer) =
     let done : SetUp = setupOf h buffer in
     record { number = done .number; state = cond (eqb (done .number) 0) (done .state) state; lent = done .state }
-answer state (tick input output) =
+outcome state (tick input output) =
     let done : Ticked = tickOf state input output in
     record { number = done .number; state = done .state; lent = done .output }
 
 -- "Each tick gets the state as the one before left it; nobody else writes it."
-unfoldable pub answers : List ℕ → List Call → List Answer
-answers state [] = []
-answers state (call ∷ calls) = answer state call ∷ answers (answer state call .state) calls
+unfoldable pub outcomes : List ℕ → List Call → List Outcome
+outcomes state [] = []
+outcomes state (call ∷ calls) = outcome state call ∷ outcomes (outcome state call .state) calls
 
--- a tick that returned 0: its input, and its output after it
+-- a tick that returned 0: what it was given, and its output after it
 pub record Tick : Type 0 where
-  pub input : List ℕ
+  pub input : TickInput
   pub output : List ℕ
 
 -- The ticks of a list that demand 3 counts: "refused ones may stand anywhere in it and aren't counted"; "an accepted setup begins a
@@ -43,5 +44,21 @@ ticksOf state [] = []
 ticksOf state (setup h buffer ∷ calls) = cond (eqb (setupOf h buffer .number) 0) [] (ticksOf state calls)
 ticksOf state (tick input output ∷ calls) =
     let done : Ticked = tickOf state input output in
-    cond (eqb (done .number) 0) (record { input = input; output = done .output } ∷ ticksOf (done .state) calls)
+    cond (eqb (done .number) 0) (record { input = tickInput input; output = done .output } ∷ ticksOf (done .state) calls)
     (ticksOf (done .state) calls)
+
+-- A stretch of a list: what an accepted setup fixed, and the ticks from there up to the next accepted one.
+pub record Stretch : Type 0 where
+  pub head : Head
+  pub ticks : List Tick
+
+-- the stretch that a call begins; `state` is as the call leaves it
+abbrev pub begun : Call → List ℕ → List Call → List Stretch
+begun (setup h buffer) state calls = cond (eqb (setupOf h buffer .number) 0) (record { head = h; ticks = ticksOf state calls } ∷ []) []
+begun (tick input output) state calls = []
+
+unfoldable pub stretchesOf : List ℕ → List Call → List Stretch
+stretchesOf state [] = []
+stretchesOf state (call ∷ calls) =
+    let after : List ℕ = outcome state call .state in
+    begun call after calls ++ stretchesOf after calls

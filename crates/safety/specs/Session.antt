@@ -6,7 +6,8 @@ use Rattle.little_endian.specs.Numbers.{u32Bytes}
 use Rattle.lead_records.specs.Inputs.{inputSize}
 use Rattle.post.specs.Heads.{stateLength, outputLength, outputPart, headFrom}
 use Rattle.post.specs.Calls.{setupOf}
-use Rattle.safety.specs.Lists.{Call, tick, Tick, ticksOf}
+use Rattle.post.specs.declared.head.Head.{Head}
+use Rattle.safety.specs.Lists.{Call, setup, tick, Tick, ticksOf}
 
 -- bytes, filled up with zeros
 abbrev padded : ℕ → List ℕ → List ℕ
@@ -32,40 +33,48 @@ abbrev closed : List ℕ
 closed = status 1
 
 -- a lead's input: contacts, what is present, frames; volts 0 and amperes 0 where present, insulation resistance 8,192 ohms
-abbrev given : ℕ → ℕ → ℕ → List ℕ → List ℕ
-given contacts present count frames =
+abbrev leadInput : ℕ → ℕ → ℕ → List ℕ → List ℕ
+leadInput contacts present count frames =
     padded inputSize ((contacts ∷ present ∷ count ∷ 0 ∷ []) ++ replicate 8 0 ++ (0 ∷ 0 ∷ 0 ∷ 0x46 ∷ []) ++ frames)
 
 -- what a lead is given: nothing plugged in
 abbrev unplugged : List ℕ
-unplugged = given 0 3 0 []
+unplugged = leadInput 0 3 0 []
 
 -- plug closed, start pressed
 abbrev start : List ℕ
-start = given 0x21 0 0 []
+start = leadInput 0x21 0 0 []
 
 -- plug and charge permission closed, the car's first frames
 abbrev handshake : List ℕ
-handshake = given 3 0 3 (battery ++ time ++ opened)
+handshake = leadInput 3 0 3 (battery ++ time ++ opened)
 
 -- from here on the lock is closed too
 abbrev hold : List ℕ
-hold = given 7 3 0 []
+hold = leadInput 7 3 0 []
 
 -- with an insulation resistance
 abbrev test : List ℕ
-test = given 7 7 0 []
+test = leadInput 7 7 0 []
 
 -- with the contactor closed, and at last open
 abbrev charge : List ℕ
-charge = given 7 3 1 closed
+charge = leadInput 7 3 1 closed
 
 abbrev release : List ℕ
-release = given 7 3 1 opened
+release = leadInput 7 3 1 opened
 
 -- the stop button pressed
 abbrev stop : List ℕ
-stop = given 0x17 3 0 []
+stop = leadInput 0x17 3 0 []
+
+-- the permission opened, with current flowing
+abbrev cut : List ℕ
+cut = leadInput 5 3 1 closed
+
+-- a post with some leads, 500 V and 10 A
+abbrev head : ℕ → Head
+head leads = headFrom (record { leads = leads; volts = 500; amperes = 10; resistance = 0 })
 
 -- a tick of two leads
 abbrev both : ℕ → List ℕ → List ℕ → Call
@@ -91,6 +100,9 @@ session =
     ∷ both 350 hold charge
     ∷ both 350 unplugged charge
     ∷ both 350 start charge
+    -- no leads: refused, and the post goes on
+    ∷ setup (head 0) []
+    ∷ both 350 start cut
     ∷ []
 
 -- phase, reason and command of both leads after a tick
@@ -101,6 +113,6 @@ abbrev pub allShown : List Tick → List (List ℕ)
 allShown [] = []
 allShown (t ∷ ticks) = shown t ∷ allShown ticks
 
--- the session on a post with two leads, 500 V and 10 A
+-- the session on a post with two leads
 abbrev pub played : List (List ℕ)
-played = allShown (ticksOf (setupOf (headFrom 2 500 10 0) (replicate (stateLength 2) 0) .state) session)
+played = allShown (ticksOf (setupOf (head 2) (replicate (stateLength 2) 0) .state) session)

@@ -10,11 +10,11 @@ use Rattle.readings.specs.Value.{number}
 use Rattle.readings.specs.Readings.{judgedOf}
 use Rattle.readings.specs.declared.Judged.the-variants.{Good}
 use Rattle.readings.specs.declared.Reading.the-variants.{Value}
-use Rattle.frames.specs.Times.{bytesOf, chargingTicks}
+use Rattle.frames.specs.Times.{timeOf, chargingTicks}
 use Rattle.frames.specs.declared.heard.BatteryFrame.the-variants as battery
 use Rattle.frames.specs.declared.heard.TimeFrame.the-variants as time
 use Rattle.frames.specs.declared.heard.StatusFrame.the-variants as status
-use Rattle.sharing.specs.Level.{wantAt, levelOf}
+use Rattle.sharing.specs.Level.{wantOf, levelOf}
 use Rattle.lead.specs.Names.{insulationTest, charging, noReason, lowInsulation}
 use Rattle.lead.specs.Questions.{meterOf, gotNo}
 use Rattle.lead.specs.Power.{wantedWatts, commanded}
@@ -23,12 +23,12 @@ use Rattle.lead.specs.declared.state.Input.{Input}
 use Rattle.lead.specs.declared.state.Ratings.{Ratings}
 use Rattle.lead_records.specs.Inputs.{contactsOf}
 use Rattle.post.specs.Heads.{inputLength, headFrom}
-use Rattle.post.specs.Rules.{leadAfter}
+use Rattle.post.specs.Rules.{tickInput, leadAfter}
 
 -- a case: its number here, what the rules give, what the document states
 pub record Case : Type 0 where
   pub number : ℕ
-  pub given : List ℕ
+  pub computed : List ℕ
   pub stated : List ℕ
 
 -- 400.25 V: 1601 × 2 ^ -2
@@ -56,7 +56,7 @@ leadAt phase command request =
       car =
           record {
             battery = record { seen = true; maximum = 400 };
-            time = record { seen = true; value = bytesOf 6 0 };
+            time = record { seen = true; value = timeOf 6 0 };
             status = record { seen = true; value = record { target = 400; request = request; faults = 0; flags = 1 } };
             silence = 0;
           };
@@ -79,7 +79,7 @@ abbrev insulationPasses : ℕ → ℕ
 insulationPasses ohms = cond (gotNo ratings (tested ohms) (leadAt insulationTest 0 0) lowInsulation) 0 1
 
 abbrev levelFor : List ℕ → ℕ → ℕ
-levelFor wants limit = levelOf (length wants) (wantAt wants) limit
+levelFor wants limit = levelOf (length wants) (wantOf wants) limit
 
 -- wants, level and commands of two leads at 400 V that ask for 25 and 150 A
 abbrev shared : ℕ → List ℕ
@@ -97,38 +97,38 @@ stopInput = (0xa0 ∷ 0x86 ∷ 1 ∷ 0 ∷ []) ++ (0x17 ∷ 3 ∷ 0 ∷ 0 ∷ []
 -- the command after some ticks with the stop button pressed, from 125 A on
 abbrev stopping : ℕ → ℕ → Lead
 stopping zero = λ k. leadAt charging 125 125
-stopping (suc t) = leadAfter (headFrom 1 500 125 0) stopInput (stopping t)
+stopping (suc t) = leadAfter (headFrom (record { leads = 1; volts = 500; amperes = 125; resistance = 0 })) (tickInput stopInput) (stopping t)
 
 unfoldable pub cases : List Case
 cases =
     -- "400.25 V, no resistance: 401."
-    record { number = 1; given = connector volts-400-25 (number 100) 0 ∷ []; stated = 401 ∷ [] }
+    record { number = 1; computed = connector volts-400-25 (number 100) 0 ∷ []; stated = 401 ∷ [] }
     -- "400 V, 100 A, 0.5 ohm: 350."
-    ∷ record { number = 2; given = connector (number 400) (number 100) 0x3f00_0000 ∷ []; stated = 350 ∷ [] }
+    ∷ record { number = 2; computed = connector (number 400) (number 100) 0x3f00_0000 ∷ []; stated = 350 ∷ [] }
     -- "Minus zero: 0.", of volts, amperes and resistance
-    ∷ record { number = 3; given = connector minusZero minusZero 0x8000_0000 ∷ []; stated = 0 ∷ [] }
+    ∷ record { number = 3; computed = connector minusZero minusZero 0x8000_0000 ∷ []; stated = 0 ∷ [] }
     -- "6 gives 600 ticks"
-    ∷ record { number = 4; given = chargingTicks (bytesOf 6 0) ∷ []; stated = 600 ∷ [] }
+    ∷ record { number = 4; computed = chargingTicks (timeOf 6 0) ∷ []; stated = 600 ∷ [] }
     -- "H'FF with 6 gives 3,600"
-    ∷ record { number = 5; given = chargingTicks (bytesOf 0xff 6) ∷ []; stated = 3600 ∷ [] }
+    ∷ record { number = 5; computed = chargingTicks (timeOf 0xff 6) ∷ []; stated = 3600 ∷ [] }
     -- "0 gives 0."
-    ∷ record { number = 6; given = chargingTicks (bytesOf 0 0) ∷ []; stated = 0 ∷ [] }
+    ∷ record { number = 6; computed = chargingTicks (timeOf 0 0) ∷ []; stated = 0 ∷ [] }
     -- "At 400 V, 40,000 passes, 39,999 doesn't."
-    ∷ record { number = 7; given = insulationPasses 40000 ∷ insulationPasses 39999 ∷ []; stated = 1 ∷ 0 ∷ [] }
+    ∷ record { number = 7; computed = insulationPasses 40000 ∷ insulationPasses 39999 ∷ []; stated = 1 ∷ 0 ∷ [] }
     -- "Wants 10,000 and 60,000, allowance 50,000: level 40,000; at 400 V, 25 and 100 A."
-    ∷ record { number = 8; given = shared 50000; stated = 10000 ∷ 60000 ∷ 40000 ∷ 25 ∷ 100 ∷ [] }
+    ∷ record { number = 8; computed = shared 50000; stated = 10000 ∷ 60000 ∷ 40000 ∷ 25 ∷ 100 ∷ [] }
     -- "60,000 twice, 50,001: 25,000."
-    ∷ record { number = 9; given = levelFor (60000 ∷ 60000 ∷ []) 50001 ∷ []; stated = 25000 ∷ [] }
+    ∷ record { number = 9; computed = levelFor (60000 ∷ 60000 ∷ []) 50001 ∷ []; stated = 25000 ∷ [] }
     -- "No wants, allowance 7: 7."
-    ∷ record { number = 10; given = levelFor [] 7 ∷ []; stated = 7 ∷ [] }
+    ∷ record { number = 10; computed = levelFor [] 7 ∷ []; stated = 7 ∷ [] }
     -- "Three wants of 100, 200: 66."
-    ∷ record { number = 11; given = levelFor (100 ∷ 100 ∷ 100 ∷ []) 200 ∷ []; stated = 66 ∷ [] }
+    ∷ record { number = 11; computed = levelFor (100 ∷ 100 ∷ 100 ∷ []) 200 ∷ []; stated = 66 ∷ [] }
     -- "Allowance 0: 0."
-    ∷ record { number = 12; given = levelFor (100 ∷ []) 0 ∷ []; stated = 0 ∷ [] }
+    ∷ record { number = 12; computed = levelFor (100 ∷ []) 0 ∷ []; stated = 0 ∷ [] }
     -- "Command 125, ordinary stop, allowance ample: 115 in that tick, 5 in the 12th, 0 in the 13th."
     ∷ record {
       number = 13;
-      given = stopping 1 0 .command ∷ stopping 12 0 .command ∷ stopping 13 0 .command ∷ [];
+      computed = stopping 1 0 .command ∷ stopping 12 0 .command ∷ stopping 13 0 .command ∷ [];
       stated = 115 ∷ 5 ∷ 0 ∷ [];
     }
     ∷ []
@@ -142,4 +142,4 @@ same (x ∷ k) (y ∷ l) = eqb x y && same k l
 -- the numbers of those that differ
 abbrev pub wrong : List Case → List ℕ
 wrong [] = []
-wrong (c ∷ rest) = cond (same (c .given) (c .stated)) (wrong rest) (c .number ∷ wrong rest)
+wrong (c ∷ rest) = cond (same (c .computed) (c .stated)) (wrong rest) (c .number ∷ wrong rest)

@@ -3,16 +3,16 @@
 use mathlib.Core.Bool.{cond}
 use mathlib.Core.List.{List, [], _∷_}
 use Prim.Native.Nat.{ℕ}
-use lib.Dec.{eqb}
 use lib.ListN.{length}
-use Rattle.lead.specs.Hearing.{fresh}
+use Rattle.common.specs.Refusals.{refusalOf, doneUnless}
+use Rattle.lead.specs.Leads.{fresh}
 use Rattle.lead.specs.declared.state.Lead.{Lead}
 use Rattle.post.specs.Heads.{headOf}
-use Rattle.post.specs.Rules.{leadAfter, postBytes, outputBytes}
-use Rattle.post.specs.Refusals.{setupRefusal, goodPost, inputRefusal}
+use Rattle.post.specs.Rules.{tickInput, leadAfter, shownAfter, postBytes}
+use Rattle.post.specs.Refusals.{setupRows, goodPost, inputRows}
 use Rattle.post.specs.Calls.{leadsOf}
 use Rattle.post.specs.declared.head.Head.{Head}
-use Rattle.safety.specs.Lists.{Call, setup, tick, Answer}
+use Rattle.safety.specs.Lists.{Call, setup, tick, Outcome}
 
 -- what the rules keep from call to call: a post, or, until a setup is accepted, bytes that are no good state
 pub data Kept : Type 0 where
@@ -32,23 +32,19 @@ pub record Ruled : Type 0 where
 -- an accepted setup begins anew with fresh leads
 unfoldable pub ruled : Kept → Call → Ruled
 ruled kept (setup h buffer) =
-    let refusal : ℕ = setupRefusal h (length buffer) in
-    cond (eqb refusal 0)
+    doneUnless (refusalOf (setupRows h (length buffer))) (λ n. record { number = n; kept = kept; lent = buffer })
     (record { number = 0; kept = post h (λ k. fresh); lent = postBytes h (λ k. fresh) })
-    (record { number = refusal; kept = kept; lent = buffer })
 ruled (post h leads) (tick input output) =
-    let refusal : ℕ = inputRefusal (h .leads) input (length output) in
-    cond (eqb refusal 0)
-    (record { number = 0; kept = post h (leadAfter h input leads); lent = outputBytes h input (leadAfter h input leads) })
-    (record { number = refusal; kept = post h leads; lent = output })
+    doneUnless (refusalOf (inputRows (h .leads) input (length output))) (λ n. record { number = n; kept = post h leads; lent = output })
+    (record { number = 0; kept = post h (leadAfter h (tickInput input) leads); lent = shownAfter h (tickInput input) leads })
 ruled (unusable bytes) (tick input output) = record { number = 6; kept = unusable bytes; lent = output }
 
-abbrev pub answered : Ruled → Answer
-answered done = record { number = done .number; state = keptBytes (done .kept); lent = done .lent }
+abbrev pub outcomeOf : Ruled → Outcome
+outcomeOf done = record { number = done .number; state = keptBytes (done .kept); lent = done .lent }
 
-unfoldable pub trace : Kept → List Call → List Answer
+unfoldable pub trace : Kept → List Call → List Outcome
 trace kept [] = []
-trace kept (call ∷ calls) = answered (ruled kept call) ∷ trace (ruled kept call .kept) calls
+trace kept (call ∷ calls) = outcomeOf (ruled kept call) ∷ trace (ruled kept call .kept) calls
 
 -- A list may also begin with bytes that no setup of its own wrote. A good state is read once, here, as the leads that the trace begins with.
 unfoldable pub keptOf : List ℕ → Kept

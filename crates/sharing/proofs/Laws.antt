@@ -7,18 +7,18 @@ use native.Mathlib.Numerals.{unary-clauses}
 use native.Mathlib.Omega.{arith}
 use lib.Dec.{leb}
 use borrow.Author.Tests.{leb-true, le-leb}
-use Rattle.sharing.specs.Level.{sum, given, fits, levelOf, oneIfAny, wantingAt, equalPart}
+use Rattle.sharing.specs.Level.{sum, totalAt, fits, levelOf, oneIfAny, wantingAt, equalPart}
 use Rattle.sharing.proofs.Sums.{sum-le, sum-times, largest-within, largest-passes, largest-most, largest-same}
 
-pub given-is : (n : ℕ) (wants : ℕ → ℕ) (level : ℕ) → given n wants level ≡ sum n (λ k. min (wants k) level)
-unfolding given
-given-is n wants level = refl
+pub total-is : (n : ℕ) (wants : ℕ → ℕ) (level : ℕ) → totalAt n wants level ≡ sum n (λ k. min (wants k) level)
+unfolding totalAt
+total-is n wants level = refl
 
 module _ (n : ℕ) (wants : ℕ → ℕ) where
   -- nobody gets less at a higher level
-  given-grows : (i j : ℕ) → i ≤ j → given n wants i ≤ given n wants j
-  unfolding given
-  given-grows i j h = sum-le n (λ k. min (wants k) i) (λ k. min (wants k) j) (λ k x. omega arith)
+  total-grows : (i j : ℕ) → i ≤ j → totalAt n wants i ≤ totalAt n wants j
+  unfolding totalAt
+  total-grows i j h = sum-le n (λ k. min (wants k) i) (λ k. min (wants k) j) (λ k x. omega arith)
 
 pub one-any : (x : ℕ) → 0 < x → oneIfAny x ≡ 1
 one-any zero h = absurd (omega arith)
@@ -29,50 +29,50 @@ one-none zero e = refl
 one-none (suc x) e = absurd (omega arith)
 
 -- what is given out when the level rises: as much more for each want above it, or less
-pub given-above : (n : ℕ) (wants : ℕ → ℕ) (level more : ℕ) → given n wants (level + more) ≤ given n wants level + wantingAt n wants level * more
-unfolding given wantingAt
-given-above zero wants level more = omega arith
-given-above (suc n) wants level more = omega (arith, given-above n wants level more, one (wants n - level) refl)
+pub total-above : (n : ℕ) (wants : ℕ → ℕ) (level more : ℕ) → totalAt n wants (level + more) ≤ totalAt n wants level + wantingAt n wants level * more
+unfolding totalAt wantingAt
+total-above zero wants level more = omega arith
+total-above (suc n) wants level more = omega (arith, total-above n wants level more, one (wants n - level) refl)
   where
     one : (above : ℕ) → wants n - level ≡ above → min (wants n) (level + more) ≤ min (wants n) level + oneIfAny above * more
     one zero e = omega arith
     one (suc above) e = omega arith
 
 -- exactly one more for each, where it rises by 1
-pub given-next : (n : ℕ) (wants : ℕ → ℕ) (level : ℕ) → given n wants (level + 1) ≡ given n wants level + wantingAt n wants level
-unfolding given wantingAt
-given-next zero wants level = refl
-given-next (suc n) wants level = omega (arith, given-next n wants level, one (wants n - level) refl)
+pub total-next : (n : ℕ) (wants : ℕ → ℕ) (level : ℕ) → totalAt n wants (level + 1) ≡ totalAt n wants level + wantingAt n wants level
+unfolding totalAt wantingAt
+total-next zero wants level = refl
+total-next (suc n) wants level = omega (arith, total-next n wants level, one (wants n - level) refl)
   where
     one : (above : ℕ) → wants n - level ≡ above → min (wants n) (level + 1) ≡ min (wants n) level + oneIfAny above
     one zero e = omega arith
     one (suc above) e = omega arith
 
 -- whoever wants more than a level gets all of it
-given-least : (n : ℕ) (wants : ℕ → ℕ) (level : ℕ) → 0 < wantingAt n wants level → level ≤ given n wants level
-unfolding given wantingAt
-given-least zero wants level h = absurd (omega arith)
-given-least (suc n) wants level h = go (wants n - level) refl h (λ x. given-least n wants level x)
+total-least : (n : ℕ) (wants : ℕ → ℕ) (level : ℕ) → 0 < wantingAt n wants level → level ≤ totalAt n wants level
+unfolding totalAt wantingAt
+total-least zero wants level h = absurd (omega arith)
+total-least (suc n) wants level h = go (wants n - level) refl h (λ x. total-least n wants level x)
   where
     go : (above : ℕ) → wants n - level ≡ above → 0 < wantingAt n wants level + oneIfAny above
-        → (0 < wantingAt n wants level → level ≤ given n wants level) → level ≤ given n wants level + min (wants n) level
+        → (0 < wantingAt n wants level → level ≤ totalAt n wants level) → level ≤ totalAt n wants level + min (wants n) level
     go zero e x fewer = omega (arith, fewer (omega arith))
     go (suc above) e x fewer = omega arith
 
 -- what is given out at a level is at most the level for each want above 0
-given-at-most : (n : ℕ) (wants : ℕ → ℕ) (level : ℕ) → given n wants level ≤ sum n (λ k. oneIfAny (wants k)) * level
-unfolding given
-given-at-most n wants level =
+total-at-most : (n : ℕ) (wants : ℕ → ℕ) (level : ℕ) → totalAt n wants level ≤ sum n (λ k. oneIfAny (wants k)) * level
+unfolding totalAt
+total-at-most n wants level =
     omega (arith, sum-le n (λ k. min (wants k) level) (λ k. oneIfAny (wants k) * level) (λ k x. one (wants k)), sum-times n (λ k. oneIfAny (wants k)) level)
   where
     one : (want : ℕ) → min want level ≤ oneIfAny want * level
     one zero = omega arith
     one (suc want) = omega arith
 
-pub given-at-zero : (n : ℕ) (wants : ℕ → ℕ) → given n wants 0 ≡ 0
-unfolding given
-given-at-zero zero wants = refl
-given-at-zero (suc n) wants = omega (arith, given-at-zero n wants)
+pub total-at-zero : (n : ℕ) (wants : ℕ → ℕ) → totalAt n wants 0 ≡ 0
+unfolding totalAt
+total-at-zero zero wants = refl
+total-at-zero (suc n) wants = omega (arith, total-at-zero n wants)
 
 module _ (n : ℕ) (wants : ℕ → ℕ) (limit : ℕ) where
   pub level-within : levelOf n wants limit ≤ limit
@@ -80,53 +80,53 @@ module _ (n : ℕ) (wants : ℕ → ℕ) (limit : ℕ) where
   level-within = largest-within (fits n wants limit) limit
 
   -- at the level the sum fits
-  pub level-fits : given n wants (levelOf n wants limit) ≤ limit
+  pub level-fits : totalAt n wants (levelOf n wants limit) ≤ limit
   unfolding levelOf
   level-fits =
-      leb-true (given n wants (levelOf n wants limit)) limit
-      (largest-passes (fits n wants limit) limit (le-leb (given n wants 0) limit (omega (arith, given-at-zero n wants))))
+      leb-true (totalAt n wants (levelOf n wants limit)) limit
+      (largest-passes (fits n wants limit) limit (le-leb (totalAt n wants 0) limit (omega (arith, total-at-zero n wants))))
 
   -- nothing larger up to the limit fits
-  pub level-largest : (j : ℕ) → j ≤ limit → given n wants j ≤ limit → j ≤ levelOf n wants limit
+  pub level-largest : (j : ℕ) → j ≤ limit → totalAt n wants j ≤ limit → j ≤ levelOf n wants limit
   unfolding levelOf
-  level-largest j h t = largest-most (fits n wants limit) limit j h (le-leb (given n wants j) limit t)
+  level-largest j h t = largest-most (fits n wants limit) limit j h (le-leb (totalAt n wants j) limit t)
 
   -- so it is known by two facts: it fits, and one more is above the limit or does not fit
-  pub level-is : (l : ℕ) → l ≤ limit → given n wants l ≤ limit → (l ≡ limit) ⊎ (limit < given n wants (l + 1)) → l ≡ levelOf n wants limit
+  pub level-is : (l : ℕ) → l ≤ limit → totalAt n wants l ≤ limit → (l ≡ limit) ⊎ (limit < totalAt n wants (l + 1)) → l ≡ levelOf n wants limit
   level-is l h t more = le-antisymm (level-largest l h t) (below more)
     where
-      below : (l ≡ limit) ⊎ (limit < given n wants (l + 1)) → levelOf n wants limit ≤ l
+      below : (l ≡ limit) ⊎ (limit < totalAt n wants (l + 1)) → levelOf n wants limit ≤ l
       below (inl e) = omega (arith, level-within)
       below (inr x) =
           (let y : levelOf n wants limit < l + 1
-          = lt-of-not-le (λ z. not-le-of-lt x (le-trans (given-grows n wants (l + 1) (levelOf n wants limit) z) level-fits)) in
+          = lt-of-not-le (λ z. not-le-of-lt x (le-trans (total-grows n wants (l + 1) (levelOf n wants limit) z) level-fits)) in
           omega arith)
 
   -- where nobody wants more than a level that fits, it is the limit itself
-  pub level-met : (l : ℕ) → l ≤ limit → given n wants l ≤ limit → wantingAt n wants l ≡ 0 → limit ≡ levelOf n wants limit
-  level-met l h t e = level-is limit (omega arith) (subst (λ (m : ℕ). given n wants m ≤ limit) whole all) (inl refl)
+  pub level-met : (l : ℕ) → l ≤ limit → totalAt n wants l ≤ limit → wantingAt n wants l ≡ 0 → limit ≡ levelOf n wants limit
+  level-met l h t e = level-is limit (omega arith) (subst (λ (m : ℕ). totalAt n wants m ≤ limit) whole all) (inl refl)
     where
       whole : l + (limit - l) ≡ limit
       whole = omega arith
 
-      all : given n wants (l + (limit - l)) ≤ limit
-      all = omega (arith, given-above n wants l (limit - l), ap (λ (m : ℕ). m * (limit - l)) e)
+      all : totalAt n wants (l + (limit - l)) ≤ limit
+      all = omega (arith, total-above n wants l (limit - l), ap (λ (m : ℕ). m * (limit - l)) e)
 
   -- a round, which gives an equal part of what is left to each who wants more
-  module _ (l takers part : ℕ) (t : given n wants l ≤ limit) (count : takers ≡ wantingAt n wants l) (some : 0 < takers)
-      (e : part ≡ (limit - given n wants l) / takers) where
+  module _ (l takers part : ℕ) (t : totalAt n wants l ≤ limit) (count : takers ≡ wantingAt n wants l) (some : 0 < takers)
+      (e : part ≡ (limit - totalAt n wants l) / takers) where
     abbrev left : ℕ
-    left = limit - given n wants l
+    left = limit - totalAt n wants l
 
     -- it stays within the limit and fits
-    pub level-rises : (l + part ≤ limit) × (given n wants (l + part) ≤ limit)
+    pub level-rises : (l + part ≤ limit) × (totalAt n wants (l + part) ≤ limit)
     level-rises = (
-      omega (arith, given-least n wants l (omega arith), div-le-self left takers),
+      omega (arith, total-least n wants l (omega arith), div-le-self left takers),
       omega (arith, above, spent),
     )
       where
-        above : given n wants (l + part) ≤ given n wants l + takers * part
-        above = rw count (given-above n wants l part)
+        above : totalAt n wants (l + part) ≤ totalAt n wants l + takers * part
+        above = rw count (total-above n wants l part)
 
         spent : takers * part ≤ left
         spent = rw e (mul-div-le left takers)
@@ -134,23 +134,23 @@ module _ (n : ℕ) (wants : ℕ → ℕ) (limit : ℕ) where
     -- where it gives nothing it was the last
     pub level-done : l ≤ limit → part ≡ 0 → l ≡ levelOf n wants limit
     level-done h z =
-        level-is l h t (inr (omega (arith, given-next n wants l, lt-div-mul-add {a = left} some, ap (λ (m : ℕ). m * takers) (sym e ∙ z))))
+        level-is l h t (inr (omega (arith, total-next n wants l, lt-div-mul-add {a = left} some, ap (λ (m : ℕ). m * takers) (sym e ∙ z))))
 
   -- nobody is held below an equal part
   pub level-shares : equalPart n wants limit ≤ levelOf n wants limit
   unfolding equalPart
   level-shares =
       level-largest (limit / count) (div-le-self limit count)
-      (omega (arith, given-at-most n wants (limit / count), div-mul-le-self limit count))
+      (omega (arith, total-at-most n wants (limit / count), div-mul-le-self limit count))
     where
       count : ℕ
       count = sum n (λ k. oneIfAny (wants k))
 
 -- places that want nothing do not count
-given-fewer : (n more : ℕ) (wants : ℕ → ℕ) (l : ℕ) → ((k : ℕ) → n ≤ k → wants k ≡ 0) → given (n + more) wants l ≡ given n wants l
-unfolding given
-given-fewer n zero wants l h = simp unary-clauses
-given-fewer n (suc more) wants l h = simp unary-clauses (omega (arith, given-fewer n more wants l h, h (n + more) (omega arith)))
+total-fewer : (n more : ℕ) (wants : ℕ → ℕ) (l : ℕ) → ((k : ℕ) → n ≤ k → wants k ≡ 0) → totalAt (n + more) wants l ≡ totalAt n wants l
+unfolding totalAt
+total-fewer n zero wants l h = simp unary-clauses
+total-fewer n (suc more) wants l h = simp unary-clauses (omega (arith, total-fewer n more wants l h, h (n + more) (omega arith)))
 
 pub level-fewer : (n m : ℕ) (wants : ℕ → ℕ) (limit : ℕ) → n ≤ m → ((k : ℕ) → n ≤ k → wants k ≡ 0) → levelOf m wants limit ≡ levelOf n wants limit
 unfolding levelOf
@@ -159,16 +159,16 @@ level-fewer n m wants limit g h = largest-same (fits m wants limit) (fits n want
     whole : m ≡ n + (m - n)
     whole = omega arith
 
-    same : (l : ℕ) → given m wants l ≡ given n wants l
-    same l = ap (λ (x : ℕ). given x wants l) whole ∙ given-fewer n (m - n) wants l h
+    same : (l : ℕ) → totalAt m wants l ≡ totalAt n wants l
+    same l = ap (λ (x : ℕ). totalAt x wants l) whole ∙ total-fewer n (m - n) wants l h
 
 -- the level looks at the places' wants alone
-given-same : (n : ℕ) (v w : ℕ → ℕ) (l : ℕ) → ((k : ℕ) → k < n → v k ≡ w k) → given n v l ≡ given n w l
-unfolding given
-given-same zero v w l h = refl
-given-same (suc n) v w l h = rw (given-same n v w l (λ k x. h k (omega arith)), h n (omega arith))
+total-same : (n : ℕ) (v w : ℕ → ℕ) (l : ℕ) → ((k : ℕ) → k < n → v k ≡ w k) → totalAt n v l ≡ totalAt n w l
+unfolding totalAt
+total-same zero v w l h = refl
+total-same (suc n) v w l h = rw (total-same n v w l (λ k x. h k (omega arith)), h n (omega arith))
 
 pub level-same : (n : ℕ) (v w : ℕ → ℕ) (limit : ℕ) → ((k : ℕ) → k < n → v k ≡ w k) → levelOf n v limit ≡ levelOf n w limit
 unfolding levelOf
 level-same n v w limit h =
-    largest-same (fits n v limit) (fits n w limit) (λ l. ap (λ (x : ℕ). leb x limit) (given-same n v w l h)) limit
+    largest-same (fits n v limit) (fits n w limit) (λ l. ap (λ (x : ℕ). leb x limit) (total-same n v w l h)) limit

@@ -10,8 +10,8 @@ abbrev pub places : ℕ
 places = 4
 
 -- wants are a function from the place; a list's are 0 past its end
-abbrev pub wantAt : List ℕ → ℕ → ℕ
-wantAt wants k = getD wants k 0
+abbrev pub wantOf : List ℕ → ℕ → ℕ
+wantOf wants k = getD wants k 0
 
 -- f 0 + .. + f (n - 1)
 abbrev pub sum : ℕ → (ℕ → ℕ) → ℕ
@@ -19,11 +19,11 @@ sum zero f = 0
 sum (suc n) f = sum n f + f n
 
 -- "the sum of the smaller of want and level"
-unfoldable pub given : ℕ → (ℕ → ℕ) → ℕ → ℕ
-given n wants level = sum n (λ k. min (wants k) level)
+unfoldable pub totalAt : ℕ → (ℕ → ℕ) → ℕ → ℕ
+totalAt n wants level = sum n (λ k. min (wants k) level)
 
 abbrev pub fits : ℕ → (ℕ → ℕ) → ℕ → ℕ → Bool
-fits n wants limit level = leb (given n wants level) limit
+fits n wants limit level = leb (totalAt n wants level) limit
 
 -- the largest number from 0 to top that passes a test, 0 where none does
 abbrev pub largest : (ℕ → Bool) → ℕ → ℕ

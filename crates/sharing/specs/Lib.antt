@@ -1,1 +1,2 @@
 pub mod Level
+pub mod All

@@ -1,7 +1,7 @@
 -- `post::tick` meets its contract. By what a tick refuses and what carrying it out leaves. Assumes nothing.
 use borrow.Author.Needs.{needs}
 use denote.Ref.{now}
-use Rattle.post.proofs.Answered.{tick-done, tick-refused}
+use Rattle.post.proofs.Returned.{tick-done, tick-refused}
 use Rattle.post.proofs.tick.Statement.{statement}
 use Rattle.post.proofs.tick.Tie as tie
 

@@ -1,10 +1,10 @@
--- `bench::posts::set_up` meets its contract. The part of the state fits, and a number has one digit. Assumes nothing.
+-- `bench::posts::set_up` meets its contract. The part of the state fits, and the number fits a byte. Assumes nothing.
 use borrow.Author.Needs.{needs}
 use mathlib.Core.Path.{sym}
 use native.Mathlib.Omega.{arith}
 use lib.Seq.{length-take-le}
 use denote.Ref.{now}
-use Rattle.post.proofs.Answered.{setup-digit}
+use Rattle.post.proofs.Returned.{setup-byte}
 use Rattle.bench.proofs.posts.set_up.Statement.{statement}
 use Rattle.bench.proofs.posts.set_up.Tie as tie
 
@@ -14,7 +14,7 @@ slice-aggregate-setup c =
     sym (length-take-le (l .result) (now (c .before .before .before .before .args .state)) (omega (arith, l .ensures)))
 
 returns : tie.Need-returns
-returns c = setup-digit _ _ (c .before .before .setup .ensures)
+returns c = setup-byte _ _ (c .before .before .setup .ensures)
 
 pub set-up-spec : {M : Type 1} → statement M
 set-up-spec =

@@ -1,10 +1,10 @@
--- `bench::posts::tick_on` meets its contract. The parts of the buffers fit, and a number has one digit. Assumes nothing.
+-- `bench::posts::tick_on` meets its contract. The parts of the buffers fit, and the number fits a byte. Assumes nothing.
 use borrow.Author.Needs.{needs}
 use mathlib.Core.Path.{sym}
 use native.Mathlib.Omega.{arith}
 use lib.Seq.{length-take-le}
 use denote.Ref.{now}
-use Rattle.post.proofs.Answered.{tick-digit}
+use Rattle.post.proofs.Returned.{tick-byte}
 use Rattle.bench.proofs.posts.tick_on.Statement.{statement}
 use Rattle.bench.proofs.posts.tick_on.Tie as tie
 
@@ -26,7 +26,7 @@ slice-aggregate-tick-3 c =
     sym (length-take-le (l .result) (now (k .before .before .before .before .before .before .before .before .args .output)) (omega (arith, l .ensures)))
 
 returns : tie.Need-returns
-returns c = tick-digit _ _ _ (c .before .before .before .before .tick .ensures)
+returns c = tick-byte _ _ _ (c .before .before .before .before .tick .ensures)
 
 pub tick-on-spec : {M : Type 1} → statement M
 tick-on-spec =

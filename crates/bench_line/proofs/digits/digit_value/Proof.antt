@@ -1,8 +1,8 @@
 -- `bench_line::digits::digit_value` meets its contract. Each range that was ruled out or met decides a test. Assumes nothing.
 use borrow.Author.Needs.{needs}
 use native.Mathlib.Omega.{arith}
+use Rattle.common.proofs.Bools.{inside, below, above}
 use Rattle.bench_line.specs.Digits.{digitValue}
-use Rattle.bench_line.proofs.Tests.{inside, below, above}
 use Rattle.bench_line.proofs.digits.digit_value.Statement.{statement}
 use Rattle.bench_line.proofs.digits.digit_value.Tie as tie
 

@@ -2,7 +2,6 @@
 use borrow.Author.Needs.{needs}
 use mathlib.Core.Path.{sym, _∙_}
 use denote.Ref.{now}
-use Rattle.bench_line.specs.declared.lines.Line.the-variants.{Setup}
 use Rattle.bench_line.specs.declared.numbers.Number.the-variants.{Value, Not}
 use Rattle.bench_line.proofs.Rests.{bits-last}
 use Rattle.bench_line.proofs.lines.after_amperes.Statement.{statement}
@@ -11,15 +10,13 @@ use Rattle.bench_line.proofs.lines.after_amperes.Tie as tie
 returns : tie.Need-returns
 returns c =
     let k = c .before .before in
-    let a = k .before .before .args in
-    bits-last (now (a .fields)) (Setup (a .leads) (a .volts) (a .amperes)) Not (sym (k .bits .ensures) ∙ c .enum-told .given .1)
+    bits-last (now (k .before .before .args .fields)) _ Not (sym (k .bits .ensures) ∙ c .enum-told .given .1)
 
 returns-2 : tie.Need-returns-2
 returns-2 c =
     let k = c .before .before .before in
-    let a = k .before .before .args in
     let found = c .before .resistance .given in
-    bits-last (now (a .fields)) (Setup (a .leads) (a .volts) (a .amperes)) (Value (found .0 .0)) (sym (k .bits .ensures) ∙ found .1)
+    bits-last (now (k .before .before .args .fields)) _ (Value (found .0 .0)) (sym (k .bits .ensures) ∙ found .1)
 
 pub after-amperes-spec : {M : Type 1} → statement M
 after-amperes-spec =

@@ -7,7 +7,8 @@ use native.Mathlib.Omega.{arith}
 use lib.ListN.{length}
 use denote.Ref.{now}
 use Rattle.frames.specs.Records.{recordSize, recordAt, isFrame, lastOf, newestRecord}
-use Rattle.frames.proofs.Newest.{last-here, last-below, part-is}
+use Rattle.common.proofs.Joined.{cut}
+use Rattle.frames.proofs.Newest.{last-here, last-below}
 use Rattle.frames.proofs.records.newest_record.Statement.{statement}
 use Rattle.frames.proofs.records.newest_record.Tie as tie
 
@@ -26,14 +27,18 @@ returns c =
     let k = c .before .before .before .before in
     let l = k .before .loop in
     let a = k .before .before .before .before .args in
-    let t : isFrame (a .identifier) (recordAt (l .n - 1) (now (a .records))) ≡ true = ap (isFrame (a .identifier)) (sym (part-is (now (a .records)) (l .n - 1))) ∙ sym (c .before .before .is-frame .ensures) ∙ c .before .if1 .taken in
-    part-is (now (a .records)) (l .n - 1) ∙ last-here (a .identifier) (now (a .records)) (l .n) (l .n - 1) (omega arith) t ∙ l .inv .1
+    let part-is = cut 0 recordSize (l .n - 1) (recordSize * (l .n - 1)) (now (a .records)) (omega arith) in
+    let t : isFrame (a .identifier) (recordAt (l .n - 1) (now (a .records))) ≡ true =
+    ap (isFrame (a .identifier)) (sym part-is) ∙ sym (c .before .before .is-frame .ensures) ∙ c .before .if1 .taken in
+    part-is ∙ last-here (a .identifier) (now (a .records)) (l .n) (l .n - 1) (omega arith) t ∙ l .inv .1
 
 loop-again : tie.Need-loop-again Inv-loop μ-loop
 loop-again c =
     let l = c .before .before .before .before .loop in
     let a = c .before .before .before .before .before .before .before .args in
-    let t : isFrame (a .identifier) (recordAt (l .n - 1) (now (a .records))) ≡ false = ap (isFrame (a .identifier)) (sym (part-is (now (a .records)) (l .n - 1))) ∙ sym (c .before .is-frame .ensures) ∙ c .if1 .left in
+    let part-is = cut 0 recordSize (l .n - 1) (recordSize * (l .n - 1)) (now (a .records)) (omega arith) in
+    let t : isFrame (a .identifier) (recordAt (l .n - 1) (now (a .records))) ≡ false =
+    ap (isFrame (a .identifier)) (sym part-is) ∙ sym (c .before .is-frame .ensures) ∙ c .if1 .left in
     (omega arith, last-below (a .identifier) (now (a .records)) (l .n) (l .n - 1) (omega arith) t ∙ l .inv .1)
 
 returns-2 : tie.Need-returns-2 Inv-loop μ-loop

@@ -5,7 +5,7 @@ use Prim.Native.Nat.{_+_, min}
 use lib.Dec.{eqb}
 use borrow.Author.Tests.{eq-eqb, ne-eqb}
 use Rattle.lead.specs.Moves.{ageAfter}
-use Rattle.lead.proofs.Bools.{when-true, when-false}
+use Rattle.common.proofs.Bools.{when-true, when-false}
 use Rattle.lead.proofs.Counting.{counts, full}
 use Rattle.lead.proofs.moves.age_after.Statement.{statement}
 use Rattle.lead.proofs.moves.age_after.Tie as tie

@@ -1,22 +1,22 @@
 -- `post::head::head_refusal` meets its contract. Each answer decides a question. Assumes nothing.
 use borrow.Author.Needs.{needs}
-use Rattle.post.specs.Refusals.{headRefusal}
-use Rattle.post.proofs.Asked.{said-no, said-yes}
+use Rattle.post.specs.Refusals.{headRows}
+use Rattle.common.proofs.Bools.{said-no, said-yes}
 use Rattle.post.proofs.head.head_refusal.Statement.{statement}
 use Rattle.post.proofs.head.head_refusal.Tie as tie
 
 returns : tie.Need-returns
-unfolding headRefusal
+unfolding headRows
 returns c = rw (said-no (c .before .is-between .ensures) (c .if1 .taken))
 
 returns-2 : tie.Need-returns-2
-unfolding headRefusal
+unfolding headRows
 returns-2 c =
     let k = c .before .before in
     rw (said-yes (k .before .is-between .ensures) (k .if1 .left), said-no (c .before .is-between2 .ensures) (c .if2 .taken))
 
 returns-3 : tie.Need-returns-3
-unfolding headRefusal
+unfolding headRows
 returns-3 c =
     let k = c .before .before in
     let j = k .before .before in
@@ -27,7 +27,7 @@ returns-3 c =
     )
 
 returns-4 : tie.Need-returns-4
-unfolding headRefusal
+unfolding headRows
 returns-4 c =
     let l = c .before .before in
     let k = l .before .before in
@@ -36,23 +36,11 @@ returns-4 c =
       said-yes (j .before .is-between .ensures) (j .if1 .left),
       said-yes (k .before .is-between2 .ensures) (k .if2 .left),
       said-yes (l .before .is-between3 .ensures) (l .if3 .left),
-      said-no (c .before .is-allowed-resistance .ensures) (c .if4 .taken),
+      ← c .before .is-allowed-resistance .ensures,
     )
-
-returns-5 : tie.Need-returns-5
-unfolding headRefusal
-returns-5 c =
-    let l = c .before .before in
-    let k = l .before .before in
-    let j = k .before .before in
-    rw (
-      said-yes (j .before .is-between .ensures) (j .if1 .left),
-      said-yes (k .before .is-between2 .ensures) (k .if2 .left),
-      said-yes (l .before .is-between3 .ensures) (l .if3 .left),
-      said-yes (c .before .is-allowed-resistance .ensures) (c .if4 .left),
-    )
+    (c .unless .ensures)
 
 pub head-refusal-spec : {M : Type 1} → statement M
 head-refusal-spec =
     tie.close
-    (tie.spec (search needs) returns (search needs) returns-2 (search needs) returns-3 (search needs) returns-4 returns-5)
+    (tie.spec (search needs) returns (search needs) returns-2 (search needs) returns-3 (search needs) (search needs) returns-4)

@@ -6,9 +6,9 @@ use Prim.Native.Nat.{_-_, _≤_}
 use native.Mathlib.Omega.{arith}
 use denote.Ref.{now}
 use Rattle.lead_records.specs.Inputs.{inputSize, goodInput}
-use Rattle.post.specs.Parts.{every}
+use Rattle.common.specs.Parts.{every}
 use Rattle.post.specs.Heads.{limitSize}
-use Rattle.post.proofs.Every.{each, each-not, each-more}
+use Rattle.common.proofs.Every.{each, each-not, each-more}
 use Rattle.post.proofs.refusals.are_good_inputs.Statement.{statement}
 use Rattle.post.proofs.refusals.are_good_inputs.Tie as tie
 

@@ -3,7 +3,8 @@ use borrow.Author.Needs.{needs}
 use mathlib.Core.Path.{sym, _∙_}
 use native.Mathlib.Omega.{arith}
 use denote.Ref.{now}
-use Rattle.post.proofs.Asked.{said-no, said-yes, too-short, other-head, other-length, good-if-leads}
+use Rattle.common.proofs.Bools.{said-no, said-yes}
+use Rattle.post.proofs.Taken.{too-short, other-head, other-length, good-if-leads}
 use Rattle.post.proofs.refusals.is_good_post.Statement.{statement}
 use Rattle.post.proofs.refusals.is_good_post.Tie as tie
 

@@ -2,14 +2,14 @@
 use borrow.Author.Needs.{needs}
 use native.Mathlib.Omega.{arith}
 use denote.Ref.{now}
-use Rattle.readings.proofs.Tests.{holds}
-use Rattle.post.specs.Refusals.{tickRefusal}
-use Rattle.post.proofs.Asked.{said-no, said-yes, last-refused, post-length}
+use Rattle.common.proofs.Bools.{holds, said-no, said-yes}
+use Rattle.post.specs.Refusals.{tickRows}
+use Rattle.post.proofs.Taken.{post-length}
 use Rattle.post.proofs.refusals.tick_refusal.Statement.{statement}
 use Rattle.post.proofs.refusals.tick_refusal.Tie as tie
 
 returns : tie.Need-returns
-unfolding tickRefusal
+unfolding tickRows
 returns c = rw (said-no (c .before .is-good-post .ensures) (c .if1 .taken))
 
 read-requires : tie.Need-read-requires
@@ -20,11 +20,10 @@ read-requires c κs = omega (
 )
 
 returns-2 : tie.Need-returns-2
-unfolding tickRefusal
+unfolding tickRows
 returns-2 c =
     let k = c .before .before in
-    rw (said-yes (k .before .is-good-post .ensures) (k .if1 .left), ← c .before .read .ensures, ← c .input-refusal .ensures)
-    (last-refused (c .input-refusal .result))
+    rw (said-yes (k .before .is-good-post .ensures) (k .if1 .left), ← c .before .read .ensures) (c .input-refusal .ensures)
 
 pub tick-refusal-spec : {M : Type 1} → statement M
 tick-refusal-spec =

@@ -5,11 +5,11 @@ use Prim.Native.Nat.{ℕ, _+_, _-_, _*_, _≤_}
 use native.Mathlib.Nat.{add-sub-cancel-left}
 use native.Mathlib.Omega.{arith}
 use denote.Ref.{now}
-use Rattle.lead.specs.Hearing.{fresh}
+use Rattle.lead.specs.Leads.{fresh}
 use Rattle.lead_records.specs.States.{stateSize, encode}
 use Rattle.lead_records.proofs.RoundTrip.{encode-length}
 use Rattle.post.specs.Heads.{headSize}
-use Rattle.post.proofs.Joined.{Filling, filled-none, filled-copy, filled-all}
+use Rattle.common.proofs.Joined.{Filling, filled-none, filled-copy, filled-all}
 use Rattle.post.proofs.written.write_fresh_leads.Statement.{statement}
 use Rattle.post.proofs.written.write_fresh_leads.Tie as tie
 

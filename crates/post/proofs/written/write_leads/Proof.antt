@@ -16,7 +16,7 @@ use Rattle.lead_records.proofs.Shown.{output-length}
 use Rattle.post.specs.Heads.{headSize}
 use Rattle.post.specs.Turns.{emptyTurn, commandedTurn, turnShown}
 use Rattle.post.specs.declared.turns.Turn.{Turn}
-use Rattle.post.proofs.Joined.{Filling, filled-none, filled-copy, filled-all}
+use Rattle.common.proofs.Joined.{Filling, filled-none, filled-copy, filled-all}
 use Rattle.post.proofs.written.write_leads.Statement.{statement}
 use Rattle.post.proofs.written.write_leads.Tie as tie
 

@@ -7,7 +7,7 @@ use lib.Ieee.Fits.{and-l, and-r}
 use Rattle.readings.specs.Value.{within}
 use Rattle.readings.specs.Readings.{inRange, connectorVolts, inSteps}
 use Rattle.readings.specs.declared.Measurement.{Measurement}
-use Rattle.readings.proofs.Tests.{holds, is-true}
+use Rattle.common.proofs.Bools.{holds, is-true}
 use Rattle.readings.proofs.InRange.{wider}
 use Rattle.readings.proofs.Connector.{connector-within}
 use Rattle.readings.proofs.Measurement.in_steps.Statement.{statement}

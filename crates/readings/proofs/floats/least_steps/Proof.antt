@@ -6,7 +6,7 @@ use native.Mathlib.Omega.{arith}
 use lib.Dec.{T}
 use lib.Ieee.{binary32, fits, toBits}
 use Rattle.readings.specs.Value.{within, least, stepsPerUnit}
-use Rattle.readings.proofs.Tests.{holds}
+use Rattle.common.proofs.Bools.{holds}
 use Rattle.readings.proofs.InRange.{no-nan}
 use Rattle.readings.proofs.Least.{least-top}
 use Rattle.readings.proofs.Bits.{exponent, least-zero, least-subnormal, least-small, least-normal, exponent-top}

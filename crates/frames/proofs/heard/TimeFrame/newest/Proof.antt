@@ -3,7 +3,7 @@ use borrow.Author.Needs.{needs}
 use mathlib.Core.List.{List}
 use Prim.Native.Nat.{ℕ}
 use Rattle.frames.specs.Records.{dataByte}
-use Rattle.frames.specs.Times.{bytesOf}
+use Rattle.frames.specs.Times.{timeOf}
 use Rattle.frames.specs.Heard.{newestTime}
 use Rattle.frames.specs.declared.heard.TimeFrame.{TimeFrame}
 use Rattle.frames.specs.declared.heard.TimeFrame.the-variants.{Heard, Absent}
@@ -12,7 +12,7 @@ use Rattle.frames.proofs.heard.TimeFrame.newest.Statement.{statement}
 use Rattle.frames.proofs.heard.TimeFrame.newest.Tie as tie
 
 abbrev says : List ℕ → TimeFrame
-says r = Heard (bytesOf (dataByte r 1) (dataByte r 2))
+says r = Heard (timeOf (dataByte r 1) (dataByte r 2))
 
 returns : tie.Need-returns
 unfolding newestTime

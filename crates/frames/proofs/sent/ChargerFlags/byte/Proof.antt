@@ -1,13 +1,16 @@
--- `frames::sent::ChargerFlags::byte` meets its contract. By that of `byte_of`. Assumes nothing.
-use Rattle.frames.specs.Sent.{flagsByte}
+-- `frames::sent::ChargerFlags::byte` meets its contract. The weights are those of the bits. Assumes nothing.
 use borrow.Author.Needs.{needs}
+use native.Mathlib.Omega.{arith}
+use Rattle.frames.specs.Sent.{flagsByte}
 use Rattle.frames.proofs.sent.ChargerFlags.byte.Statement.{statement}
 use Rattle.frames.proofs.sent.ChargerFlags.byte.Tie as tie
 
 returns : tie.Need-returns
 unfolding flagsByte
-returns c = c .byte-of .ensures
+returns c = omega arith
 
 pub byte-spec : {M : Type 1} → statement M
-byte-spec = tie.close
-    (tie.spec (search needs) returns)
+byte-spec =
+    tie.close
+    (tie.spec (search needs) (search needs) (search needs) (search needs) (search needs) (search needs) (search needs) (search needs)
+    (search needs) (search needs) (search needs) returns)

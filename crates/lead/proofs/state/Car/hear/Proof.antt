@@ -1,7 +1,7 @@
 -- `lead::state::Car::hear` meets its contract. By the phase: deaf, past phase 1, in phase 1. Assumes nothing.
 use borrow.Author.Needs.{needs}
 use borrow.Author.Tests.{not-true, not-false, ne-eqb}
-use Rattle.lead.specs.Names.{between}
+use Rattle.common.specs.Tests.{between}
 use Rattle.lead.specs.Hearing.{hearCar}
 use Rattle.lead.proofs.state.Car.hear.Statement.{statement}
 use Rattle.lead.proofs.state.Car.hear.Tie as tie

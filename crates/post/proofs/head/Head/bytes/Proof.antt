@@ -6,22 +6,10 @@ use Rattle.post.proofs.head.Head.bytes.Tie as tie
 
 returns : tie.Need-returns
 unfolding headBytes
-returns c =
-    let k = c .before .before .before .before in
-    let j = k .before .before in
-    rw (
-      c .high-byte3 .ensures,
-      c .before .low-byte3 .ensures,
-      c .before .before .high-byte2 .ensures,
-      c .before .before .before .low-byte2 .ensures,
-      k .high-byte .ensures,
-      k .before .low-byte .ensures,
-      j .high-half .ensures,
-      j .before .low-half .ensures,
-    )
+returns c = rw (c .high-byte .ensures, c .before .low-byte .ensures, c .before .before .u32-bytes .ensures)
 
 pub bytes-spec : {M : Type 1} → statement M
 bytes-spec =
     tie.close
     (tie.spec (search needs) (search needs) (search needs) (search needs) (search needs) (search needs) (search needs) (search needs)
-    returns)
+    (search needs) (search needs) (search needs) (search needs) (search needs) (search needs) (search needs) (search needs) (search needs) (search needs) (search needs) returns)

@@ -1,0 +1,4 @@
+pub mod Tests
+pub mod Parts
+pub mod Refusals
+pub mod All

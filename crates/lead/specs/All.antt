@@ -1,0 +1,13 @@
+-- One name that opens every rule of this crate and of those below, for whoever computes with them. Definitions only.
+use mathlib.Core.Bool.{Bool, true}
+use Rattle.readings.specs.All.{readingsRules}
+use Rattle.frames.specs.All.{framesRules}
+use Rattle.lead.specs.Hearing.{hearBattery, hearTime, hearStatus, silenceAfter, hearCar, hear}
+use Rattle.lead.specs.Questions.{viewOf, questions, ask, gotNo}
+use Rattle.lead.specs.Moves.{moves, mayMove, nextPhase, reasonAfter, ageAfter, goOn, advance, decide}
+use Rattle.lead.specs.Power.{wanted, wantedWatts, commanded}
+use Rattle.lead.specs.Good.{goodThreshold, goodLead}
+
+unfoldable pub leadRules : Bool
+unfolding readingsRules framesRules hearBattery hearTime hearStatus silenceAfter hearCar hear viewOf questions ask gotNo moves mayMove nextPhase reasonAfter ageAfter goOn advance decide wanted wantedWatts commanded goodThreshold goodLead
+leadRules = true
