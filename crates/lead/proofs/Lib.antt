@@ -1,4 +1,4 @@
--- Laws. For the functions here: counting up to a bound, amperes and watts, the first no, tests as facts.
+-- Laws. For the functions here: counting up to a bound, amperes and watts, the first no.
 -- For those above: what hearing does, where each phase leads, what answers a verdict implies, what `decide` does field by field, what a
 -- command leaves alone, what the end of a whole tick implies, and that a good lead stays good.
 pub mod Counting

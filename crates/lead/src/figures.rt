@@ -1,17 +1,22 @@
-// The figures of document 01's questions and moves. Volts and amperes are whole: readings are judged in steps of them.
+// The figures of document 01's questions and moves. What a reading is compared with is in its steps.
+use readings::STEPS_PER_UNIT;
+
 pub struct Figure;
 
 impl Figure {
-    // Question 17: so many amperes above the rated ones.
-    pub const MORE_AMPERES: u32 = 5;
+    // A volt or an ampere.
+    pub const UNIT: u32 = STEPS_PER_UNIT as u32;
+
+    // Question 17: so much above the rated amperes.
+    pub const MORE_AMPERES: u32 = 5 * Figure::UNIT;
 
     // The moves out of 4 and 9.
-    pub const DISCHARGED_VOLTS: u32 = 10;
+    pub const DISCHARGED_VOLTS: u32 = 10 * Figure::UNIT;
 
     // The move out of 7.
-    pub const RESIDUAL_AMPERES: u32 = 4;
+    pub const RESIDUAL_AMPERES: u32 = 4 * Figure::UNIT;
 
-    // Question 21, and the kept threshold.
+    // Question 21 and the kept threshold, in volts.
     pub const LEAST_VOLTS: u16 = 50;
 
     // Question 19, in ticks.

@@ -11,7 +11,6 @@ use super::state::Input;
 use super::state::Lead;
 use super::state::Ratings;
 use super::state::Stage;
-use readings::STEPS_PER_UNIT;
 ghost use mathlib.Core.Path.{_≡_};
 ghost use mathlib.Core.Bool.{cond};
 ghost use Rattle.lead.specs.Moves.{moves, mayMove, nextPhase, reasonAfter, ageAfter, goOn, advance, decide};
@@ -34,7 +33,6 @@ impl HeardLead {
         let lead = self.lead;
         let car = lead.car;
         let age = lead.stage.age;
-        let step = STEPS_PER_UNIT as u32;
         [
             // 0 to 1
             contacts.start & contacts.plug & !contacts.emergency,
@@ -49,18 +47,18 @@ impl HeardLead {
             // 3 to 4
             view.present,
             // 4 to 5
-            meter.volts <= step * Figure::DISCHARGED_VOLTS,
+            meter.volts <= Figure::DISCHARGED_VOLTS,
             // 5 to 6
             signals.closed,
             // 6: none
             false,
             // 7 to 8
-            ((lead.command == 0) & (meter.amperes <= step * Figure::RESIDUAL_AMPERES))
+            ((lead.command == 0) & (meter.amperes <= Figure::RESIDUAL_AMPERES))
                 | (Figure::RAMP_DOWN_END <= age),
             // 8 to 9
             !signals.closed | (Figure::WELD_CHECK_END <= age),
             // 9 to 10
-            meter.good & (meter.volts <= step * Figure::DISCHARGED_VOLTS),
+            meter.good & (meter.volts <= Figure::DISCHARGED_VOLTS),
             // 10 to 0
             !contacts.plug,
         ]

@@ -11,7 +11,6 @@ use super::state::Ratings;
 use frames::VehicleSignals;
 use readings::Judged;
 use readings::Reading;
-use readings::STEPS_PER_UNIT;
 use readings::is_insulated;
 ghost use mathlib.Core.Path.{_≡_};
 ghost use mathlib.Core.Bool.{not, _&&_};
@@ -186,9 +185,9 @@ impl HeardLead {
         let p = self.lead.stage.phase;
         let contacts = view.contacts;
         let meter = view.meter;
-        let step = STEPS_PER_UNIT as u32;
-        let volts_fit = meter.volts <= step * (view.threshold as u32);
-        let amperes_fit = meter.amperes <= step * ((view.rated as u32) + Figure::MORE_AMPERES);
+        let volts_fit = meter.volts <= Figure::UNIT * (view.threshold as u32);
+        let amperes_fit = meter.amperes
+            <= Figure::UNIT * (view.rated as u32) + Figure::MORE_AMPERES;
         let v = self.ask_ordinary(view);
         let v = urgent_row(Reason::UNLOCKED, p, 3, 7, contacts.lock, v);
         let v = urgent_row(Reason::OVERCURRENT, p, 5, 7, amperes_fit, v);

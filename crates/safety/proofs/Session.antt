@@ -2,12 +2,12 @@
 use mathlib.Core.List.{[], _∷_}
 use mathlib.Core.Path.{_≡_, refl}
 use Rattle.post.specs.All.{postRules}
-use Rattle.safety.specs.Lists.{ticksOf}
+use Rattle.safety.specs.Lists.{outcome, ticksOf, stretchesOf}
 use Rattle.safety.specs.Session.{session, played}
 
 pub session-shows :
     played
-    ≡ (
+    ≡ ((
     -- the first lead starts, then the second
     (1 ∷ 0 ∷ 0 ∷ 0 ∷ 0 ∷ 0 ∷ [])
     ∷ (2 ∷ 0 ∷ 0 ∷ 1 ∷ 0 ∷ 0 ∷ [])
@@ -30,7 +30,9 @@ pub session-shows :
     ∷ (1 ∷ 0 ∷ 0 ∷ 6 ∷ 0 ∷ 7 ∷ [])
     -- the second is cut off at 7 A
     ∷ (1 ∷ 0 ∷ 0 ∷ 9 ∷ 14 ∷ 0 ∷ [])
-    ∷ []
-    )
-unfolding session ticksOf postRules
+    ∷ [])
+    -- the post is set up anew
+    ∷ ((0 ∷ 0 ∷ 0 ∷ 1 ∷ 0 ∷ 0 ∷ []) ∷ [])
+    ∷ [])
+unfolding session outcome ticksOf stretchesOf postRules
 session-shows = refl

@@ -5,9 +5,8 @@ use lib.ListN.{length, replicate, take}
 use Rattle.little_endian.specs.Numbers.{u32Bytes}
 use Rattle.lead_records.specs.Inputs.{inputSize}
 use Rattle.post.specs.Heads.{stateLength, outputLength, outputPart, headFrom}
-use Rattle.post.specs.Calls.{setupOf}
 use Rattle.post.specs.declared.head.Head.{Head}
-use Rattle.safety.specs.Lists.{Call, setup, tick, Tick, ticksOf}
+use Rattle.safety.specs.Lists.{Call, setup, tick, Tick, Stretch, stretchesOf}
 
 -- bytes, filled up with zeros
 abbrev padded : ℕ → List ℕ → List ℕ
@@ -80,9 +79,14 @@ head leads = headFrom (record { leads = leads; volts = 500; amperes = 10; resist
 abbrev both : ℕ → List ℕ → List ℕ → Call
 both limit first second = tick (u32Bytes limit ++ first ++ second) (replicate (outputLength 2) 0)
 
+-- a setup that is accepted
+abbrev begin : Call
+begin = setup (head 2) (replicate (stateLength 2) 0)
+
 unfoldable pub session : List Call
 session =
-    both 1000 start unplugged
+    begin
+    ∷ both 1000 start unplugged
     ∷ both 1000 handshake start
     ∷ both 1000 hold handshake
     ∷ both 1000 test hold
@@ -103,16 +107,23 @@ session =
     -- no leads: refused, and the post goes on
     ∷ setup (head 0) []
     ∷ both 350 start cut
+    -- a new list
+    ∷ begin
+    ∷ both 1000 unplugged start
     ∷ []
 
 -- phase, reason and command of both leads after a tick
 abbrev shown : Tick → List ℕ
 shown t = take 3 (outputPart (t .output) 0) ++ take 3 (outputPart (t .output) 1)
 
-abbrev pub allShown : List Tick → List (List ℕ)
+abbrev allShown : List Tick → List (List ℕ)
 allShown [] = []
 allShown (t ∷ ticks) = shown t ∷ allShown ticks
 
--- the session on a post with two leads
-abbrev pub played : List (List ℕ)
-played = allShown (ticksOf (setupOf (head 2) (replicate (stateLength 2) 0) .state) session)
+abbrev pub eachShown : List Stretch → List (List (List ℕ))
+eachShown [] = []
+eachShown (s ∷ rest) = allShown (s .ticks) ∷ eachShown rest
+
+-- the session, stretch by stretch, from no state at all
+abbrev pub played : List (List (List ℕ))
+played = eachShown (stretchesOf [] session)

@@ -1,5 +1,4 @@
 -- `lead::state::HeardLead::moves` meets its contract. The table is the rule. Assumes nothing.
-use borrow.Author.Needs.{needs}
 use mathlib.Core.Path.{refl}
 use Rattle.lead.specs.Moves.{moves}
 use Rattle.lead.proofs.state.HeardLead.moves.Statement.{statement}
@@ -11,4 +10,4 @@ returns c = refl
 
 pub moves-spec : {M : Type 1} → statement M
 moves-spec = tie.close
-    (tie.spec (search needs) (search needs) (search needs) (search needs) returns)
+    (tie.spec returns)
