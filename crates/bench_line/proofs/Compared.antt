@@ -9,7 +9,7 @@ use lib.ListN.{length, getD, drop, drop-of-length-le}
 use lib.Seq.{drop-cons}
 use borrow.Author.Tests.{eq-eqb, ne-eqb}
 use Rattle.common.proofs.Bools.{and-false}
-use Rattle.bench_line.specs.Lines.{same}
+use Rattle.common.specs.Tests.{same}
 
 pub same-lengths : (a b : List ℕ) → (length a ≡ length b → ⊥) → same a b ≡ false
 same-lengths [] [] h = absurd (h refl)

@@ -1,9 +1,10 @@
 -- Document 01, 'Bench program': a line, and what it says. Definitions only.
-use mathlib.Core.Bool.{Bool, true, false, cond, _&&_}
+use mathlib.Core.Bool.{cond}
 use mathlib.Core.List.{List, [], _∷_}
 use Prim.Native.Nat.{ℕ, _/_}
 use lib.Dec.{leb, eqb}
 use lib.ListN.{length}
+use Rattle.common.specs.Tests.{same}
 use Rattle.bench_line.specs.Digits.{decimalOf, bitsOf, isPairs, bytesOf, padded}
 use Rattle.bench_line.specs.declared.numbers.Number.{Number}
 use Rattle.bench_line.specs.declared.numbers.Number.the-variants.{Value, Not}
@@ -18,13 +19,6 @@ push c (f ∷ fs) = (c ∷ f) ∷ fs
 abbrev pub fieldsOf : List ℕ → List (List ℕ)
 fieldsOf [] = [] ∷ []
 fieldsOf (c ∷ s) = cond (eqb c 9) ([] ∷ fieldsOf s) (push c (fieldsOf s))
-
--- the same text
-abbrev pub same : List ℕ → List ℕ → Bool
-same [] [] = true
-same [] (y ∷ t) = false
-same (x ∷ s) [] = false
-same (x ∷ s) (y ∷ t) = eqb x y && same s t
 
 -- `setup` and `tick`
 abbrev pub setupWord : List ℕ

@@ -4,7 +4,7 @@ use super::numbers::decimal;
 ghost use mathlib.Core.Path.{_≡_};
 ghost use Prim.Native.Nat.{_≤_};
 ghost use lib.ListN.{length};
-ghost use Rattle.bench_line.specs.Lines.{same};
+ghost use Rattle.common.specs.Tests.{same};
 ghost use Rattle.bench_line.specs.Fields.{firstTab, numberField};
 
 pub(crate) const TAB: u8 = b'\t';

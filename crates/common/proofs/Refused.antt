@@ -25,25 +25,25 @@ number-passes f (row ∷ rows) z t = go (row .met) (number-passes f rows z (and-
     go false r = and-l (f (row .number)) (everyNumber f rows) t
 
 -- 0 is no row's number
-abbrev pub numbered : List Asked → Bool
-numbered = everyNumber (λ n. not (eqb n 0))
+abbrev pub without-0 : List Asked → Bool
+without-0 = everyNumber (λ n. not (eqb n 0))
 
 -- where nothing is refused every question got a yes
 abbrev pub AllMet : List Asked → Type 0
 AllMet [] = Unit
 AllMet (row ∷ rows) = T (row .met) × AllMet rows
 
-module _ (row : Asked) (rows : List Asked) (t : T (numbered (row ∷ rows))) where
+module _ (row : Asked) (rows : List Asked) (t : T (without-0 (row ∷ rows))) where
   this : Bool
   this = not (eqb (row .number) 0)
 
   not-this : row .number ≡ 0 → ⊥
   unfolding this
-  not-this e = T-not (eqb (row .number) 0) (and-l this (numbered rows) t) (holds (eq-eqb (row .number) 0 e))
+  not-this e = T-not (eqb (row .number) 0) (and-l this (without-0 rows) t) (holds (eq-eqb (row .number) 0 e))
 
-  others : T (numbered rows)
+  others : T (without-0 rows)
   unfolding this
-  others = and-r this (numbered rows) t
+  others = and-r this (without-0 rows) t
 
   met-first : refusalOf (row ∷ rows) ≡ 0 → T (row .met) × (refusalOf rows ≡ 0)
   met-first = go (row .met)
@@ -52,7 +52,7 @@ module _ (row : Asked) (rows : List Asked) (t : T (numbered (row ∷ rows))) whe
       go true e = (tt, e)
       go false e = absurd (not-this e)
 
-pub all-met : (rows : List Asked) → T (numbered rows) → refusalOf rows ≡ 0 → AllMet rows
+pub all-met : (rows : List Asked) → T (without-0 rows) → refusalOf rows ≡ 0 → AllMet rows
 all-met [] t e = tt
 all-met (row ∷ rows) t e =
     let first = met-first row rows t e in

@@ -15,7 +15,7 @@ use Rattle.frames.specs.Heard.{signalsOf}
 use Rattle.frames.specs.Times.{chargingTicks}
 use Rattle.common.specs.Tests.{between}
 use Rattle.lead.specs.Names.{noReason}
-use Rattle.lead.specs.Figures.{mostVolts, mostAmperes}
+use Rattle.lead.specs.Figures.{mostVolts, mostAmperes, leastVolts, silenceEnd}
 use Rattle.lead.specs.Questions.{meterOf, thresholdNow, ticksAllowed, viewOf, once, questions, isNo, stopOf, firstNo, ask, reasonOf, noQuestion, gotNo, Question}
 use Rattle.lead.specs.Hearing.{hear}
 use Rattle.lead.specs.declared.state.Lead.{Lead}
@@ -88,7 +88,7 @@ module _ (v : View) (h : HeardLead) where
   mild-yes : T (not (isUrgent (ask v h))) → (j : ℕ) → j ≤ 7 → T (isNo (h .lead .stage .phase) (row (questions v h) j)) → ⊥
   mild-yes t j x n = T-not (isUrgent (ask v h)) t (urgent-no j x n)
 
-  -- the number of a verdict is 0 or that of a question
+  -- the reason of a verdict is 0 or that of a question
   pub reason-known : T (eqb (reasonOf (ask v h)) noReason || between 11 29 (reasonOf (ask v h)))
   unfolding ask questions
   reason-known = each-gives (h .lead .stage .phase) (λ w. eqb (reasonOf w) noReason || between 11 29 (reasonOf w)) (questions v h) tt tt
@@ -122,8 +122,8 @@ module _ (v : View) (h : HeardLead) (p≤ : h .lead .stage .phase ≤ 10) where
       go (inr u) = unasked-pass (h .lead .stage .phase) (questions v h) u
 
 -- a question that was asked and got no no got a yes
-said-yes : (p : ℕ) (q : Question) → (T (isNo p q) → ⊥) → T (between (q .first) (q .last) p) → T (q .answer)
-said-yes p q n t = go (between (q .first) (q .last) p) (q .answer) n t
+asked-yes : (p : ℕ) (q : Question) → (T (isNo p q) → ⊥) → T (between (q .first) (q .last) p) → T (q .answer)
+asked-yes p q n t = go (between (q .first) (q .last) p) (q .answer) n t
   where
     go : (a b : Bool) → (T (a && not b) → ⊥) → T a → T b
     go true true n t = tt
@@ -143,14 +143,14 @@ pub record UrgentYes (c : Ratings) (i : Input) (s : Lead) : Type 0 where
 
 -- The answers of questions 19 to 29. `car` is what the lead knows of the car once it has heard the tick's frames.
 pub record OrdinaryYes (c : Ratings) (i : Input) (s : Lead) (car : Car) : Type 0 where
-  pub car-heard : T (between 2 6 (s .stage .phase)) → T (ltb (car .silence) 10)
+  pub car-heard : T (between 2 6 (s .stage .phase)) → T (ltb (car .silence) silenceEnd)
   pub faults-clear : T (between 1 6 (s .stage .phase)) → T (signalsOf (car .status .value) .clear)
   pub compatible :
       T (between 1 6 (s .stage .phase))
       → T
       (once (car .battery .seen && car .status .seen)
-      (leb 50 (car .battery .maximum)
-      && leb 50 (car .status .value .target)
+      (leb leastVolts (car .battery .maximum)
+      && leb leastVolts (car .status .value .target)
       && leb (car .status .value .target) (thresholdNow c (hear i s))))
   pub in-park : T (between 1 6 (s .stage .phase)) → T (signalsOf (car .status .value) .parked)
   pub enabled : T (between 2 6 (s .stage .phase)) → T (signalsOf (car .status .value) .enabled)
@@ -176,10 +176,10 @@ module _ (c : Ratings) (i : Input) (s : Lead) where
   asked-row j = row (questions (viewOf c i (hear i s)) (hear i s)) j
 
   urgent-said : T (not (isUrgent verdict)) → (j : ℕ) → j ≤ 7 → T (between (asked-row j .first) (asked-row j .last) (hear i s .lead .stage .phase)) → T (asked-row j .answer)
-  urgent-said t j k = said-yes (hear i s .lead .stage .phase) (asked-row j) (mild-yes (viewOf c i (hear i s)) (hear i s) t j k)
+  urgent-said t j k = asked-yes (hear i s .lead .stage .phase) (asked-row j) (mild-yes (viewOf c i (hear i s)) (hear i s) t j k)
 
   said : T (isPass verdict) → (j : ℕ) → T (between (asked-row j .first) (asked-row j .last) (hear i s .lead .stage .phase)) → T (asked-row j .answer)
-  said t j = said-yes (hear i s .lead .stage .phase) (asked-row j) (pass-yes (viewOf c i (hear i s)) (hear i s) t j)
+  said t j = asked-yes (hear i s .lead .stage .phase) (asked-row j) (pass-yes (viewOf c i (hear i s)) (hear i s) t j)
 
   -- the rows stand in the order of their numbers, from 11 on
   pub in-order : (j : ℕ) → j ≤ 18 → asked-row j .reason ≡ 11 + j

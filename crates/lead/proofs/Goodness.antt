@@ -10,6 +10,7 @@ use borrow.Author.Tests.{eq-eqb}
 use Rattle.frames.specs.Heard.{signalsOf}
 use Rattle.common.specs.Tests.{between}
 use Rattle.lead.specs.Names.{handshake, locking, noReason}
+use Rattle.lead.specs.Figures.{leastVolts}
 use Rattle.lead.specs.Leads.{blank, fresh}
 use Rattle.lead.specs.Hearing.{hear}
 use Rattle.lead.specs.Questions.{thresholdNow, viewOf, reasonOf}
@@ -35,7 +36,7 @@ pub record Good (c : Ratings) (s : Lead) : Type 0 where
   pub reason : T (eqb (s .stage .reason) noReason || between 11 29 (s .stage .reason))
   pub most : s .command ≤ c .amperes
   pub unpowered : (T (between 6 7 (s .stage .phase)) → ⊥) → s .command ≡ 0
-  pub threshold : T (eqb (s .threshold) 0 || between 50 (c .volts) (s .threshold))
+  pub threshold : T (eqb (s .threshold) 0 || between leastVolts (c .volts) (s .threshold))
   pub unkept : s .stage .phase ≡ 1 → s .threshold ≡ 0
   pub kept : T (between 2 7 (s .stage .phase)) → s .threshold ≡ 0 → ⊥
 
@@ -56,7 +57,7 @@ module _ (c : Ratings) (s : Lead) where
   spent = between 6 7 p || eqb (s .command) 0
 
   abbrev volts : Bool
-  volts = eqb t 0 || between 50 (c .volts) t
+  volts = eqb t 0 || between leastVolts (c .volts) t
 
   abbrev none : Bool
   none = not (eqb p handshake) || eqb t 0
@@ -136,7 +137,7 @@ module _ (c : Ratings) (level : ℕ) (s : Lead) (g : Good c s) where
 
 -- a lead in phase 1 that moves on has a threshold from 50 to the rated volts
 module _
-    (c : Ratings) (i : Input) (s : Lead) (wide : 50 ≤ c .volts) (e : s .stage .phase ≡ 1) (yes : OrdinaryYes c i s (hear i s .lead .car))
+    (c : Ratings) (i : Input) (s : Lead) (wide : leastVolts ≤ c .volts) (e : s .stage .phase ≡ 1) (yes : OrdinaryYes c i s (hear i s .lead .car))
     (met : MoveMet i s (hear i s .lead .car)) where
   abbrev car : Car
   car = hear i s .lead .car
@@ -145,10 +146,10 @@ module _
   all-seen = car .battery .seen && car .time .seen && car .status .seen
 
   abbrev enough : Bool
-  enough = leb 50 (car .battery .maximum)
+  enough = leb leastVolts (car .battery .maximum)
 
   abbrev target : Bool
-  target = leb 50 (car .status .value .target)
+  target = leb leastVolts (car .status .value .target)
 
   abbrev below : Bool
   below = leb (car .status .value .target) (thresholdNow c (hear i s))
@@ -164,21 +165,21 @@ module _
       (and-l (car .battery .seen) (car .time .seen) (and-l (car .battery .seen && car .time .seen) (car .status .seen) seen-all))
       (and-r (car .battery .seen && car .time .seen) (car .status .seen) seen-all)
 
-  battery-range : 50 ≤ car .battery .maximum
+  battery-range : leastVolts ≤ car .battery .maximum
   battery-range =
       let asked : T (between 1 6 (s .stage .phase)) = between-of 1 6 (s .stage .phase) (omega arith) (omega arith) in
       let answer : T (enough && target && below) = mp (car .battery .seen && car .status .seen) (enough && target && below) (yes .compatible asked) seen-both in
-      leb→le 50 (car .battery .maximum) (and-l enough target (and-l (enough && target) below answer))
+      leb→le leastVolts (car .battery .maximum) (and-l enough target (and-l (enough && target) below answer))
 
   worked-out : thresholdNow c (hear i s) ≡ min (c .volts) (car .battery .maximum)
   unfolding hear
   worked-out = rw (eq-eqb _ _ e)
 
-  kept-range : (50 ≤ thresholdNow c (hear i s)) × (thresholdNow c (hear i s) ≤ c .volts)
+  kept-range : (leastVolts ≤ thresholdNow c (hear i s)) × (thresholdNow c (hear i s) ≤ c .volts)
   kept-range = (omega (arith, battery-range, worked-out), omega (arith, worked-out))
 
 -- a tick that does not start the lead
-module _ (c : Ratings) (i : Input) (s : Lead) (wide : 50 ≤ c .volts) (g : Good c s) (off : start c i s ≡ false) where
+module _ (c : Ratings) (i : Input) (s : Lead) (wide : leastVolts ≤ c .volts) (g : Good c s) (off : start c i s ≡ false) where
   abbrev h : HeardLead
   h = hear i s
 
@@ -198,7 +199,7 @@ module _ (c : Ratings) (i : Input) (s : Lead) (wide : 50 ≤ c .volts) (g : Good
       (and-i (eqb before 1) (between 2 7 q) (holds (eq-eqb before 1 e)) w)
 
   -- the move from 1 to 2 keeps a threshold from 50 to the rated volts
-  keeps : before ≡ 1 → T (between 2 7 q) → (q ≡ 2) × ((50 ≤ thresholdNow c h) × (thresholdNow c h ≤ c .volts))
+  keeps : before ≡ 1 → T (between 2 7 q) → (q ≡ 2) × ((leastVolts ≤ thresholdNow c h) × (thresholdNow c h ≤ c .volts))
   keeps e w =
       let to-2 : T (eqb q 2 && isPass (verdict c i s)) = and-l (eqb q 2 && isPass (verdict c i s)) (may c i s) (moved-on e w) in (
         eqb→eq q 2 (and-l (eqb q 2) (isPass (verdict c i s)) to-2),
@@ -214,17 +215,17 @@ module _ (c : Ratings) (i : Input) (s : Lead) (wide : 50 ≤ c .volts) (g : Good
   after : (b : Bool) → keeping ≡ b → decide c i s .threshold ≡ cond b (thresholdNow c h) (s .threshold)
   after b e = on .threshold ∙ ap (λ (x : Bool). cond x (thresholdNow c h) (s .threshold)) e
 
-  threshold-after : T (eqb (decide c i s .threshold) 0 || between 50 (c .volts) (decide c i s .threshold))
+  threshold-after : T (eqb (decide c i s .threshold) 0 || between leastVolts (c .volts) (decide c i s .threshold))
   threshold-after = go keeping refl
     where
-      go : (b : Bool) → keeping ≡ b → T (eqb (decide c i s .threshold) 0 || between 50 (c .volts) (decide c i s .threshold))
+      go : (b : Bool) → keeping ≡ b → T (eqb (decide c i s .threshold) 0 || between leastVolts (c .volts) (decide c i s .threshold))
       go true e =
           let was-1 : before ≡ 1 = eqb→eq before 1 (and-l (eqb before 1) (eqb q 2) (holds e)) in
           let now-2 : q ≡ 2 = eqb→eq q 2 (and-r (eqb before 1) (eqb q 2) (holds e)) in
           let k = keeps was-1 (between-of 2 7 q (omega arith) (omega arith)) in
           let is : decide c i s .threshold ≡ thresholdNow c h = after true e in
-          or-r (eqb (decide c i s .threshold) 0) (between 50 (c .volts) (decide c i s .threshold))
-          (between-of 50 (c .volts) (decide c i s .threshold) (omega (arith, k .1 .0)) (omega (arith, k .1 .1)))
+          or-r (eqb (decide c i s .threshold) 0) (between leastVolts (c .volts) (decide c i s .threshold))
+          (between-of leastVolts (c .volts) (decide c i s .threshold) (omega (arith, k .1 .0)) (omega (arith, k .1 .1)))
       go false e = rw (after false e) (g .threshold)
 
   unkept-after : q ≡ 1 → decide c i s .threshold ≡ 0
@@ -287,7 +288,7 @@ module _ (c : Ratings) (i : Input) (s : Lead) (wide : 50 ≤ c .volts) (g : Good
         kept = λ w. kept-after (rw q-is at w);
       }
 
-module _ (c : Ratings) (i : Input) (s : Lead) (wide : 50 ≤ c .volts) where
+module _ (c : Ratings) (i : Input) (s : Lead) (wide : leastVolts ≤ c .volts) where
   pub decide-good : Good c s → Good c (decide c i s)
   decide-good g = go (start c i s) refl
     where

@@ -11,7 +11,7 @@ use Rattle.common.specs.Tests.{between}
 use Rattle.lead.specs.Names.{handshake, locking}
 use Rattle.lead.specs.Leads.{blank}
 use Rattle.lead.specs.Hearing.{hear}
-use Rattle.lead.specs.Figures.{dischargedVolts, residualAmperes}
+use Rattle.lead.specs.Figures.{dischargedVolts, residualAmperes, rampDownEnd, weldCheckEnd}
 use Rattle.lead.specs.Questions.{meterOf, isPresent, thresholdNow, viewOf}
 use Rattle.lead.specs.Moves.{moves, mayMove, nextPhase, reasonAfter, ageAfter, goOn, advance, decide}
 use Rattle.lead.specs.declared.state.Lead.{Lead}
@@ -44,8 +44,8 @@ pub record MoveMet (i : Input) (s : Lead) (car : Car) : Type 0 where
   pub out-of-3 : s .stage .phase ≡ 3 → T (isPresent (i .insulation))
   pub out-of-4 : s .stage .phase ≡ 4 → T (leb (meterOf (i .reading) .volts) dischargedVolts)
   pub out-of-5 : s .stage .phase ≡ 5 → T (signalsOf (car .status .value) .closed)
-  pub out-of-7 : s .stage .phase ≡ 7 → T (eqb (s .command) 0 && leb (meterOf (i .reading) .amperes) residualAmperes || leb 30 (s .stage .age))
-  pub out-of-8 : s .stage .phase ≡ 8 → T (not (signalsOf (car .status .value) .closed) || leb 40 (s .stage .age))
+  pub out-of-7 : s .stage .phase ≡ 7 → T (eqb (s .command) 0 && leb (meterOf (i .reading) .amperes) residualAmperes || leb rampDownEnd (s .stage .age))
+  pub out-of-8 : s .stage .phase ≡ 8 → T (not (signalsOf (car .status .value) .closed) || leb weldCheckEnd (s .stage .age))
   pub out-of-9 : s .stage .phase ≡ 9 → T (meterOf (i .reading) .good && leb (meterOf (i .reading) .volts) dischargedVolts)
   pub out-of-10 : s .stage .phase ≡ 10 → T (not (i .contacts .plug))
 

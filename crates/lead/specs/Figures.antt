@@ -11,8 +11,11 @@ abbrev pub mostVolts : ℕ → ℕ
 mostVolts threshold = stepsOf threshold
 
 -- question 17: "at most rated + 5"
+abbrev pub moreAmperes : ℕ
+moreAmperes = stepsOf 5
+
 abbrev pub mostAmperes : ℕ → ℕ
-mostAmperes rated = stepsOf rated + stepsOf 5
+mostAmperes rated = stepsOf rated + moreAmperes
 
 -- the moves out of 4 and 9: "connector volts at most 10"
 abbrev pub dischargedVolts : ℕ

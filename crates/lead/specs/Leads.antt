@@ -1,4 +1,4 @@
--- A lead's parts: all of them as a start and setup leave them, and each replaced by itself. Definitions only.
+-- A lead's groups of fields: all of them as a start and setup leave them, and each replaced alone. Definitions only.
 use mathlib.Core.Bool.{false}
 use Prim.Native.Nat.{ℕ}
 use Rattle.frames.specs.Times.{timeOf}
@@ -27,7 +27,7 @@ blank p =
 abbrev pub fresh : Lead
 fresh = blank idle
 
--- What a rule does not change stands here alone.
+-- Each replaces one of them and keeps the others, so that a rule names only what it changes.
 abbrev pub withStage : Stage → Lead → Lead
 withStage stage s = record { stage = stage; command = s .command; threshold = s .threshold; car = s .car }
 

@@ -163,7 +163,7 @@ impl HeardLead {
             & (Figure::LEAST_VOLTS <= target)
             & (target <= view.threshold);
         let compatible = !(lead.car.battery.seen & lead.car.status.seen) | in_range;
-        let heard = lead.car.silence < Figure::SILENCE_END;
+        let recent = lead.car.silence < Figure::SILENCE_END;
         let v = Verdict::Pass;
         let v = ordinary_row(Reason::CHARGING_TIME_OVER, p, 6, 6, age < view.time, v);
         let v = ordinary_row(Reason::PHASE_TIMEOUT, p, 1, 5, age < view.allowed, v);
@@ -175,7 +175,7 @@ impl HeardLead {
         let v = ordinary_row(Reason::NOT_IN_PARK, p, 1, 6, signals.parked, v);
         let v = ordinary_row(Reason::INCOMPATIBLE_VOLTAGE, p, 1, 6, compatible, v);
         let v = ordinary_row(Reason::CAR_FAULT, p, 1, 6, signals.clear, v);
-        ordinary_row(Reason::CAR_SILENT, p, 2, 6, heard, v)
+        ordinary_row(Reason::CAR_SILENT, p, 2, 6, recent, v)
     }
 
     // All of them: before those the urgent ones, 11 to 18.

@@ -3,7 +3,7 @@ use mathlib.Core.List.{List, [], _∷_, _++_}
 use mathlib.Core.Path.{_≡_, ap, _∙_}
 use Prim.Native.Nat.{ℕ}
 use lib.ListN.{length, getD, replicate}
-use Rattle.little_endian.proofs.Spelled.{eight}
+use Rattle.common.proofs.Spelled.{eight}
 
 abbrev pub elements : List ℕ → List ℕ
 elements l =

@@ -14,7 +14,7 @@ use Rattle.little_endian.specs.Flags.{bitAt, byteOf}
 use Rattle.lead.specs.Good.{goodLead}
 use Rattle.lead.specs.declared.state.Lead.{Lead}
 use Rattle.lead.specs.declared.state.Ratings.{Ratings}
-use Rattle.little_endian.proofs.Spelled.{spelled-is}
+use Rattle.common.proofs.Spelled.{spelled-is}
 use Rattle.little_endian.proofs.Bits.{bit-back, byte-below}
 use Rattle.little_endian.proofs.Bytes.{u16-back, u32-back, low-byte-back, high-byte-back, low-half-back, high-half-back}
 use Rattle.common.proofs.Bools.{upTo-at}

@@ -1,4 +1,4 @@
--- One name that opens every rule of this crate and of those below, for whoever computes with them. Definitions only.
+-- One name that opens the rules that a computed tick goes through, of this crate and of those below.
 use mathlib.Core.Bool.{Bool, true}
 use Rattle.lead.specs.All.{leadRules}
 use Rattle.lead_records.specs.States.{decode, encode, goodState}

@@ -18,7 +18,7 @@ use Rattle.common.specs.Tests.{between}
 use Rattle.lead.specs.Names.{insulationTest, charging, groundFault, badReading, unlocked, carSilent, incompatibleVoltage, lowInsulation, phaseTimeout}
 use Rattle.lead.specs.declared.state.Lead.{Lead}
 use Rattle.lead.specs.declared.state.Ratings.{Ratings}
-use Rattle.lead_records.specs.declared.outputs.Figures.{Figures}
+use Rattle.lead_records.specs.declared.outputs.ShownReading.{ShownReading}
 
 -- "Output, 24 a lead"
 abbrev pub outputSize : ℕ
@@ -56,16 +56,16 @@ remainingOf s =
     (timeOf 0 0)
 
 -- "Without a good reading 1–3 are 0."
-abbrev pub figuresOf : Judged → Figures
-figuresOf (Good volts amperes) = record { volts = wholeUnits volts; amperes = wholeUnits amperes }
-figuresOf Bad = record { volts = 0; amperes = 0 }
+abbrev pub shownReading : Judged → ShownReading
+shownReading (Good volts amperes) = record { volts = wholeUnits volts; amperes = wholeUnits amperes }
+shownReading Bad = record { volts = 0; amperes = 0 }
 
 -- what H'109 reports
 unfoldable pub reportOf : Bool → Judged → Lead → Report
 reportOf lock reading s =
     record {
-      volts = figuresOf reading .volts;
-      amperes = figuresOf reading .amperes;
+      volts = shownReading reading .volts;
+      amperes = shownReading reading .amperes;
       flags = flagsOf lock (s .stage .phase) (s .stage .reason);
       remaining = remainingOf s;
     }

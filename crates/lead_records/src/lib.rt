@@ -1,4 +1,4 @@
-// One lead's bytes: its state (32), its input (104) and its output (24). Rests on lead, frames, readings and little_endian.
+// One lead's bytes: its state (32), its input (104) and its output (24). Rests on lead, frames, readings, little_endian and common.
 mod inputs;
 mod outputs;
 mod states;

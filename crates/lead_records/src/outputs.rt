@@ -19,13 +19,13 @@ ghost use mathlib.Core.Path.{_≡_};
 ghost use mathlib.Core.List.{_++_};
 ghost use Rattle.frames.specs.Sent.{offerBytes, reportBytes};
 ghost use lib.ListN.{replicate};
-ghost use Rattle.lead_records.specs.Outputs.{switches, testVolts, offerOf, flagsOf, remainingOf, figuresOf, reportOf, whileSending, outputOf};
+ghost use Rattle.lead_records.specs.Outputs.{switches, testVolts, offerOf, flagsOf, remainingOf, shownReading, reportOf, whileSending, outputOf};
 
 // The output's size, the places in it, and the weights in its byte of switches.
 pub struct OutputRecord;
 
 // Volts and amperes as H'109 shows them.
-struct Figures {
+struct ShownReading {
     volts: u16,
     amperes: u16,
 }
@@ -112,15 +112,15 @@ impl OutputRecord {
         }
     }
 
-    fn figures(reading: Judged) -> Figures
-        ensures { λ r. ⌜ r ≡ figuresOf reading ⌝ }
+    fn shown_reading(reading: Judged) -> ShownReading
+        ensures { λ r. ⌜ r ≡ shownReading reading ⌝ }
     {
         match reading {
-            Judged::Good { volts, amperes } => Figures {
+            Judged::Good { volts, amperes } => ShownReading {
                 volts: whole_units(volts),
                 amperes: whole_units(amperes),
             },
-            Judged::Bad => Figures {
+            Judged::Bad => ShownReading {
                 volts: 0,
                 amperes: 0,
             },
@@ -143,10 +143,10 @@ impl OutputRecord {
     fn report(lock: bool, reading: Judged, lead: Lead) -> [u8; 8]
         ensures { λ r. ⌜ r ≡ reportBytes (reportOf lock reading lead) ⌝ }
     {
-        let figures = OutputRecord::figures(reading);
+        let shown = OutputRecord::shown_reading(reading);
         let report = Report {
-            volts: figures.volts,
-            amperes: figures.amperes,
+            volts: shown.volts,
+            amperes: shown.amperes,
             flags: OutputRecord::flags(lock, lead.stage.phase, lead.stage.reason),
             remaining: OutputRecord::remaining(lead),
         };

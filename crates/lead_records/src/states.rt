@@ -20,7 +20,7 @@ ghost use mathlib.Core.Path.{_≡_};
 ghost use lib.ListN.{length, drop};
 ghost use Rattle.lead_records.specs.States.{stateSize, decode, seenByte, encode, allZero, goodState};
 
-// The state's size and the places in it.
+// The state's size, the places in it, and the weights in its byte of frames seen.
 pub struct StateRecord;
 
 impl StateRecord {
@@ -57,7 +57,7 @@ impl StateRecord {
     // Bytes from here on are spare.
     const SPARE: usize = 20;
 
-    // Weights in the byte of frames seen: H'100, H'101, H'102.
+    // H'100, H'101, H'102.
     const SEEN_BATTERY: u8 = 1;
 
     const SEEN_TIME: u8 = 2;

@@ -1,4 +1,3 @@
--- Laws: a list by its elements, a byte of bits, and numbers to bytes and back.
-pub mod Spelled
+-- Laws: a byte of bits, and numbers to bytes and back.
 pub mod Bits
 pub mod Bytes

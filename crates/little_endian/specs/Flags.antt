@@ -11,6 +11,10 @@ bitAt n byte = eqb (byte / 2 ^ n % 2) 1
 abbrev pub bitValue : Bool → ℕ
 bitValue set = cond set 1 0
 
+-- a flag's part of a byte that is the sum of its flags
+abbrev pub flagOf : Bool → ℕ → ℕ
+flagOf set weight = weight * bitValue set
+
 -- the byte that has the given bits, from bit 0 on
 abbrev pub byteOf : List Bool → ℕ
 byteOf [] = 0

@@ -1,10 +1,10 @@
 // Numbers of two and four bytes, and flags in a byte. Document 01: "many-byte numbers are little-endian", "bits from 0 as
-// the lowest". Rests on common, for laws.
+// the lowest". Rests on nothing.
 ghost use mathlib.Core.Path.{_≡_};
 ghost use Prim.Native.Nat.{_+_, _*_, _≤_, _<_};
 ghost use lib.ListN.{length};
 ghost use Rattle.little_endian.specs.Numbers.{u16At, u32At, lowByte, highByte, lowHalf, highHalf, u32Bytes};
-ghost use Rattle.little_endian.specs.Flags.{bitValue};
+ghost use Rattle.little_endian.specs.Flags.{flagOf};
 
 // A byte as a wider number. The bound is stated because the sums below need it.
 fn widened(byte: u8) -> u16
@@ -72,7 +72,7 @@ pub fn u32_bytes(x: u32) -> [u8; 4]
 
 // A flag in a byte that is the sum of its flags. The bound is stated because such sums need it.
 pub fn flag(set: bool, weight: u8) -> u8
-    ensures { λ r. ⌜ (r ≡ weight * bitValue set) × (r ≤ weight) ⌝ }
+    ensures { λ r. ⌜ (r ≡ flagOf set weight) × (r ≤ weight) ⌝ }
 {
     if set { weight } else { 0 }
 }

@@ -9,7 +9,7 @@ use lib.ListN.{length, getD, take, drop, length-append, length-drop, drop-of-len
 use lib.Seq.{length-take-le, getD-drop}
 use borrow.Author.Tests.{eq-eqb}
 use Rattle.little_endian.specs.Numbers.{byteAt, u16At, lowByte, highByte}
-use Rattle.little_endian.proofs.Spelled.{spelled-is}
+use Rattle.common.proofs.Spelled.{spelled-is}
 use Rattle.little_endian.proofs.Bytes.{u16-back, u32-back, low-byte-back, high-byte-back, low-half-back, high-half-back}
 use Rattle.common.proofs.Bools.{is-true}
 use Rattle.lead.specs.Good.{goodLead}

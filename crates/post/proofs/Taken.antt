@@ -1,7 +1,7 @@
 -- What it says that nothing is refused: of a head, of a setup, of a good state, and of a tick. Assumes nothing.
 use mathlib.Core.Bool.{Bool, true, false, _&&_}
 use mathlib.Core.List.{List, [], _∷_}
-use mathlib.Core.Path.{_≡_, refl}
+use mathlib.Core.Path.{_≡_, refl, _∙_}
 use Prim.Native.Nat.{ℕ, _≤_, _<_}
 use native.Mathlib.Omega.{arith}
 use lib.Dec.{T, eqb, eqb→eq}
@@ -11,7 +11,7 @@ use borrow.Author.Tests.{eq-eqb, ne-eqb}
 use Rattle.common.specs.Parts.{every}
 use Rattle.common.specs.Refusals.{asks, refusalOf}
 use Rattle.common.proofs.Bools.{is-true, between-lo, between-hi}
-use Rattle.common.proofs.Refused.{AllMet, all-met, none-refused}
+use Rattle.common.proofs.Refused.{AllMet, all-met, then-asked, none-refused}
 use Rattle.readings.specs.Readings.{allowedResistance}
 use Rattle.lead_records.specs.States.{goodState}
 use Rattle.post.specs.Heads.{headSize, stateLength, inputLength, outputLength, headOf, statePart}
@@ -52,8 +52,10 @@ module _ (h : Head) (room : ℕ) (none : refusalOf (setupRows h room) ≡ 0) whe
   setup-head = none-refused (headRows h) (asks (eqb room (stateLength (h .leads))) 5 ∷ []) none
 
   pub setup-room : room ≡ stateLength (h .leads)
-  unfolding setupRows headRows
-  setup-room = eqb→eq room (stateLength (h .leads)) (all-met (setupRows h room) tt none .1 .1 .1 .1 .0)
+  unfolding setupRows
+  setup-room =
+      let five = asks (eqb room (stateLength (h .leads))) 5 ∷ [] in
+      eqb→eq room (stateLength (h .leads)) (all-met five tt (then-asked (headRows h) five (head-met h setup-head) ∙ none) .0)
 
 -- the questions of a good state, as the code asks them one after the other; h is the head that it read
 module _ (state : List ℕ) where

@@ -1,5 +1,6 @@
 // The post: one to four leads, and the two calls of the C host. Document 01, 'The post's two calls'.
 // Rests on the promises of `lead`, `lead_records`, `sharing`, `readings`, `little_endian`, `common` and `bytes`.
+mod fresh;
 mod head;
 mod lengths;
 mod names;
@@ -8,6 +9,7 @@ mod ticks;
 mod turns;
 mod written;
 
+use fresh::write_fresh;
 use head::Head;
 pub use head::SetupNumbers;
 pub use lengths::input_length;
@@ -17,7 +19,6 @@ use names::Refusal;
 use refusals::setup_refusal;
 use refusals::tick_refusal;
 use ticks::carry_out;
-use written::write_fresh;
 ghost use mathlib.Core.Path.{_≡_};
 ghost use Rattle.post.specs.Heads.{headFrom};
 ghost use Rattle.post.specs.Calls.{SetUp, setupOf, Ticked, tickOf};

@@ -1,8 +1,7 @@
-// What a call leaves: the leads' records of state and of output.
+// What a tick leaves: the leads' records of state and of output.
 use super::head::Head;
 use super::turns::Turn;
 use bytes::copy;
-use lead::Lead;
 use lead_records::OutputRecord;
 use lead_records::StateRecord;
 use sharing::PLACES;
@@ -12,10 +11,8 @@ ghost use Prim.Native.Nat.{_≤_};
 ghost use lib.ListN.{length, getD, take};
 ghost use Rattle.common.specs.Parts.{joined};
 ghost use Rattle.sharing.specs.Level.{places};
-ghost use Rattle.lead.specs.Leads.{fresh};
 ghost use Rattle.lead_records.specs.States.{encode};
 ghost use Rattle.post.specs.Heads.{headSize, stateLength, outputLength};
-ghost use Rattle.post.specs.Rules.{postBytes};
 ghost use Rattle.post.specs.Turns.{emptyTurn, commandedTurn, turnShown};
 
 // The turns' leads with their commands at the level: each one's records of state and output. The state's head stays as it is.
@@ -45,28 +42,4 @@ pub(crate) fn write_leads(
         copy(&shown, &mut output[to..to + OutputRecord::SIZE]);
         i += 1;
     }
-}
-
-// A fresh lead's record at each place behind the head.
-fn write_fresh_leads(leads: u8, state: &mut [u8])
-    requires { ⌜ length (now state) ≡ stateLength leads ⌝ }
-    ensures { λ _. ⌜ now (state .exit) ≡ take headSize (now (state .entry)) ++ joined leads (λ k. encode fresh) ⌝ }
-{
-    let leads = leads as usize;
-    let kept = StateRecord::bytes(Lead::fresh());
-    let mut i = 0;
-    while i < leads {
-        let at = Head::SIZE + StateRecord::SIZE * i;
-        copy(&kept, &mut state[at..at + StateRecord::SIZE]);
-        i += 1;
-    }
-}
-
-// As setup leaves the state.
-pub(crate) fn write_fresh(head: Head, state: &mut [u8])
-    requires { ⌜ length (now state) ≡ stateLength (head .leads) ⌝ }
-    ensures { λ _. ⌜ now (state .exit) ≡ postBytes head (λ k. fresh) ⌝ }
-{
-    copy(&head.bytes(), state);
-    write_fresh_leads(head.leads, state);
 }

@@ -1,4 +1,4 @@
-// The meter board's readings: document 01, 'Readings', and question 27. Rests on little_endian.
+// The meter board's readings: document 01, 'Readings', and question 27. Rests on little_endian and common.
 // Floats end here: the layers above see whole numbers, and hold a float only inside a Reading.
 mod floats;
 

@@ -7,7 +7,7 @@ use Rattle.post.specs.Rules.{TickInput, tickInput}
 use Rattle.post.specs.Calls.{SetUp, setupOf, Ticked, tickOf}
 use Rattle.post.specs.declared.head.Head.{Head}
 
--- a call, with the bytes that it lends: any numbers (a setup's are a head), any bytes, any lengths
+-- a call, with the bytes that it lends: any numbers (a setup's stand as the head that `headFrom` makes of them), any bytes, any lengths
 pub data Call : Type 0 where
   setup : (h : Head) (buffer : List ℕ) → Call
   tick : (input output : List ℕ) → Call
@@ -57,6 +57,7 @@ abbrev pub begun : Call → List ℕ → List Call → List Stretch
 begun (setup h buffer) state calls = cond (eqb (setupOf h buffer .number) 0) (record { head = h; ticks = ticksOf state calls } ∷ []) []
 begun (tick input output) state calls = []
 
+-- every stretch of a list that begins with these bytes as the state
 unfoldable pub stretchesOf : List ℕ → List Call → List Stretch
 stretchesOf state [] = []
 stretchesOf state (call ∷ calls) =

@@ -9,8 +9,8 @@ use Rattle.post.specs.declared.head.Head.{Head}
 use Rattle.safety.specs.Lists.{Call, setup, tick, Tick, Stretch, stretchesOf}
 
 -- bytes, filled up with zeros
-abbrev padded : ℕ → List ℕ → List ℕ
-padded size bytes = bytes ++ replicate (size - length bytes) 0
+abbrev filledUp : ℕ → List ℕ → List ℕ
+filledUp size bytes = bytes ++ replicate (size - length bytes) 0
 
 -- H'100: a battery of at most 50 V
 abbrev battery : List ℕ
@@ -34,7 +34,7 @@ closed = status 1
 -- a lead's input: contacts, what is present, frames; volts 0 and amperes 0 where present, insulation resistance 8,192 ohms
 abbrev leadInput : ℕ → ℕ → ℕ → List ℕ → List ℕ
 leadInput contacts present count frames =
-    padded inputSize ((contacts ∷ present ∷ count ∷ 0 ∷ []) ++ replicate 8 0 ++ (0 ∷ 0 ∷ 0 ∷ 0x46 ∷ []) ++ frames)
+    filledUp inputSize ((contacts ∷ present ∷ count ∷ 0 ∷ []) ++ replicate 8 0 ++ (0 ∷ 0 ∷ 0 ∷ 0x46 ∷ []) ++ frames)
 
 -- what a lead is given: nothing plugged in
 abbrev unplugged : List ℕ

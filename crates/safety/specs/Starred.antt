@@ -1,11 +1,11 @@
 -- The starred cases of document 01, in its order: what the rules give, beside what it states. Definitions only.
-use mathlib.Core.Bool.{Bool, true, false, cond, _&&_}
+use mathlib.Core.Bool.{true, false, cond}
 use mathlib.Core.List.{List, [], _∷_, _++_}
 use Prim.Native.Nat.{ℕ, zero, suc, _-_}
-use lib.Dec.{eqb}
 use lib.Ieee.{Float, fin}
 use lib.IntN.{pos, negsuc}
 use lib.ListN.{length, replicate}
+use Rattle.common.specs.Tests.{same}
 use Rattle.readings.specs.Value.{number}
 use Rattle.readings.specs.Readings.{judgedOf}
 use Rattle.readings.specs.declared.Judged.the-variants.{Good}
@@ -132,12 +132,6 @@ cases =
       stated = 115 ∷ 5 ∷ 0 ∷ [];
     }
     ∷ []
-
-abbrev same : List ℕ → List ℕ → Bool
-same [] [] = true
-same [] (y ∷ l) = false
-same (x ∷ k) [] = false
-same (x ∷ k) (y ∷ l) = eqb x y && same k l
 
 -- the numbers of those that differ
 abbrev pub wrong : List Case → List ℕ

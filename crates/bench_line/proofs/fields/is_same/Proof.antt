@@ -5,7 +5,7 @@ use Prim.Native.Nat.{_-_, _≤_}
 use native.Mathlib.Omega.{arith}
 use lib.ListN.{length, drop}
 use denote.Ref.{now}
-use Rattle.bench_line.specs.Lines.{same}
+use Rattle.common.specs.Tests.{same}
 use Rattle.bench_line.proofs.Compared.{same-lengths, same-more, same-not, same-end}
 use Rattle.bench_line.proofs.fields.is_same.Statement.{statement}
 use Rattle.bench_line.proofs.fields.is_same.Tie as tie

@@ -1,4 +1,4 @@
--- `lead::moves::reason_after` meets its contract. By the number of the verdict. Assumes nothing.
+-- `lead::moves::reason_after` meets its contract. By the reason of the verdict. Assumes nothing.
 use borrow.Author.Needs.{needs}
 use mathlib.Core.Bool.{_||_}
 use lib.Dec.{eqb}

@@ -8,7 +8,7 @@ returns : tie.Need-returns
 unfolding reportOf
 returns c =
     let k = c .before .before in
-    rw (c .bytes .ensures, c .before .remaining .ensures, k .flags .ensures, k .before .figures .ensures)
+    rw (c .bytes .ensures, c .before .remaining .ensures, k .flags .ensures, k .before .shown-reading .ensures)
 
 pub report-spec : {M : Type 1} → statement M
 report-spec =

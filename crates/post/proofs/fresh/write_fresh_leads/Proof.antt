@@ -1,4 +1,4 @@
--- `post::written::write_fresh_leads` meets its contract. The loop's invariant: the records passed are written, the rest is as it was. Assumes nothing.
+-- `post::fresh::write_fresh_leads` meets its contract. The loop's invariant: the records passed are written, the rest is as it was. Assumes nothing.
 use borrow.Author.Needs.{needs}
 use mathlib.Core.Path.{refl, ap, _∙_}
 use Prim.Native.Nat.{ℕ, _+_, _-_, _*_, _≤_}
@@ -10,8 +10,8 @@ use Rattle.lead_records.specs.States.{stateSize, encode}
 use Rattle.lead_records.proofs.RoundTrip.{encode-length}
 use Rattle.post.specs.Heads.{headSize}
 use Rattle.common.proofs.Joined.{Filling, filled-none, filled-copy, filled-all}
-use Rattle.post.proofs.written.write_fresh_leads.Statement.{statement}
-use Rattle.post.proofs.written.write_fresh_leads.Tie as tie
+use Rattle.post.proofs.fresh.write_fresh_leads.Statement.{statement}
+use Rattle.post.proofs.fresh.write_fresh_leads.Tie as tie
 
 abbrev Inv-loop : tie.InvT-loop
 Inv-loop leads state₀ leads' kept i₀ state i = (i ≤ leads) × Filling headSize stateSize (λ k. encode fresh) state₀ state i

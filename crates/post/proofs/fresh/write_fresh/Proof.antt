@@ -1,10 +1,10 @@
--- `post::written::write_fresh` meets its contract. By the head that is copied and the leads behind it. Assumes nothing.
+-- `post::fresh::write_fresh` meets its contract. By the head that is copied and the leads behind it. Assumes nothing.
 use borrow.Author.Needs.{needs}
 use mathlib.Core.Path.{_∙_}
 use denote.Ref.{now}
 use Rattle.post.proofs.FreshPosts.{fresh-post}
-use Rattle.post.proofs.written.write_fresh.Statement.{statement}
-use Rattle.post.proofs.written.write_fresh.Tie as tie
+use Rattle.post.proofs.fresh.write_fresh.Statement.{statement}
+use Rattle.post.proofs.fresh.write_fresh.Tie as tie
 
 returns : tie.Need-returns
 returns c =
