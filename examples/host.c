@@ -1,10 +1,11 @@
 /*
  * A small host: a post with two leads, ticked through a written session. It prints what happens
- * at the leads, in brackets, and what the support desk sees: phase, amperes, threshold, reason.
+ * at the leads, in brackets, and what the support desk sees: phase, amperes, threshold, reason,
+ * and which switches are on.
  *
  * The session shows why one lead may give 62 A and the lead beside it 125 A: both cars ask for
  * 125 A and the post has 50,000 W, so that each lead gets 25,000 W. At 400 V that carries 62
- * whole amperes, at 200 V it carries 125.
+ * whole amperes, at 200 V it carries 125. It also shows what a host does when a tick is refused.
  */
 #include "post.h"
 
@@ -12,7 +13,7 @@
 #include <stdio.h>
 #include <string.h>
 
-enum { LEADS = 2, LAST_TICK = 215, RATED_VOLTS = 500, RATED_AMPERES = 125, POWER_LIMIT = 50000 };
+enum { LEADS = 2, LAST_TICK = 216, RATED_VOLTS = 500, RATED_AMPERES = 125, POWER_LIMIT = 50000 };
 
 /* What each car says in every tick in which it talks; its status stands in the session. */
 static const struct car {
@@ -34,10 +35,7 @@ static const struct car {
 #define READY     (POST_STATUS_ENABLED | OPEN)
 #define CLOSED    POST_STATUS_ENABLED
 
-/*
- * From its tick on a step is the lead's input, until the lead's next step. Ohms 0: not measured.
- * The amperes are not written down, as the meter reads what was commanded in the tick before.
- */
+/* From its tick on a step is the lead's input, until the lead's next step. Ohms 0: not measured. */
 static const struct step {
     unsigned from, lead;
     const char *what;
@@ -59,95 +57,76 @@ static const struct step {
     {75, 1, "insulation measured, 1,000,000 ohms", LOCKED, 200, 1e6F, READY},
     {77, 1, "test voltage gone", LOCKED, 4, 0, READY},
     {80, 1, "car closes its contactor", LOCKED, 190, 0, CLOSED},
-    {150, 1, "stop button pressed", STOPPED, 190, 0, CLOSED},
-    {152, 1, "stop button let go", LOCKED, 190, 0, CLOSED},
-    {166, 1, "car opens its contactor and permission", REVOKED, 60, 0, OPEN},
-    {168, 1, "cable without voltage", REVOKED, 9, 0, SILENT},
-    {169, 1, "connector unlocked", PLUGGED, 0, 0, SILENT},
-    {172, 1, "unplugged", 0, 0, 0, SILENT},
-    {190, 0, "car asks for a stop", LOCKED, 380, 0, CLOSED | POST_STATUS_STOP_REQUEST},
-    {206, 0, "car opens its contactor and permission", REVOKED, 60, 0, OPEN},
-    {208, 0, "cable without voltage", REVOKED, 9, 0, SILENT},
-    {209, 0, "connector unlocked", PLUGGED, 0, 0, SILENT},
-    {212, 0, "unplugged", 0, 0, 0, SILENT},
+    {160, 1, "stop button pressed", STOPPED, 190, 0, CLOSED},
+    {162, 1, "stop button let go", LOCKED, 190, 0, CLOSED},
+    {176, 1, "car opens its contactor and permission", REVOKED, 60, 0, OPEN},
+    {178, 1, "cable without voltage", REVOKED, 9, 0, SILENT},
+    {179, 1, "connector unlocked", PLUGGED, 0, 0, SILENT},
+    {182, 1, "unplugged", 0, 0, 0, SILENT},
+    {206, 0, "car reports its contactor open", LOCKED, 60, 0, READY},
+    {208, 0, "car opens its permission", REVOKED, 60, 0, OPEN},
+    {210, 0, "cable without voltage", REVOKED, 9, 0, SILENT},
+    {211, 0, "connector unlocked", PLUGGED, 0, 0, SILENT},
+    {214, 0, "unplugged", 0, 0, 0, SILENT},
 };
 enum { STEPS = sizeof session / sizeof *session };
 
+/* Ticks in which the host makes a mistake: it sets a spare bit of the input. */
+static bool is_spoilt(unsigned now) { return now == 146 || (now >= 200 && now <= 205); }
+
 static const char *const phases[] = {
-    [POST_PHASE_IDLE] = "idle",
-    [POST_PHASE_HANDSHAKE] = "handshake",
-    [POST_PHASE_LOCKING] = "locking",
-    [POST_PHASE_INSULATION_TEST] = "insulation test",
+    [POST_PHASE_IDLE] = "idle", [POST_PHASE_HANDSHAKE] = "handshake",
+    [POST_PHASE_LOCKING] = "locking", [POST_PHASE_INSULATION_TEST] = "insulation test",
     [POST_PHASE_TEST_DISCHARGE] = "discharge of the test voltage",
-    [POST_PHASE_CONTACTOR_CLOSING] = "contactor closing",
-    [POST_PHASE_CHARGING] = "charging",
-    [POST_PHASE_RAMP_DOWN] = "ramp-down",
-    [POST_PHASE_WELD_CHECK] = "weld check",
-    [POST_PHASE_FINAL_DISCHARGE] = "discharge before unlocking",
-    [POST_PHASE_ENDED] = "ended",
+    [POST_PHASE_CONTACTOR_CLOSING] = "contactor closing", [POST_PHASE_CHARGING] = "charging",
+    [POST_PHASE_RAMP_DOWN] = "ramp-down", [POST_PHASE_WELD_CHECK] = "weld check",
+    [POST_PHASE_FINAL_DISCHARGE] = "discharge before unlocking", [POST_PHASE_ENDED] = "ended",
 };
 
 static const char *const reasons[] = {
-    [POST_REASON_EMERGENCY_BUTTON] = "emergency button",
-    [POST_REASON_UNPLUGGED] = "unplugged",
-    [POST_REASON_GROUND_FAULT] = "ground fault",
-    [POST_REASON_PERMISSION_OPEN] = "permission open",
-    [POST_REASON_BAD_READING] = "bad reading",
-    [POST_REASON_OVERVOLTAGE] = "overvoltage",
-    [POST_REASON_OVERCURRENT] = "overcurrent",
-    [POST_REASON_UNLOCKED] = "unlocked",
-    [POST_REASON_CAR_SILENT] = "car silent",
-    [POST_REASON_CAR_FAULT] = "car fault",
+    [POST_REASON_EMERGENCY_BUTTON] = "emergency button", [POST_REASON_UNPLUGGED] = "unplugged",
+    [POST_REASON_GROUND_FAULT] = "ground fault", [POST_REASON_PERMISSION_OPEN] = "permission open",
+    [POST_REASON_BAD_READING] = "bad reading", [POST_REASON_OVERVOLTAGE] = "overvoltage",
+    [POST_REASON_OVERCURRENT] = "overcurrent", [POST_REASON_UNLOCKED] = "unlocked",
+    [POST_REASON_CAR_SILENT] = "car silent", [POST_REASON_CAR_FAULT] = "car fault",
     [POST_REASON_INCOMPATIBLE_VOLTAGE] = "incompatible voltage",
-    [POST_REASON_NOT_IN_PARK] = "not in park",
-    [POST_REASON_NOT_ENABLED] = "not enabled",
-    [POST_REASON_STOP_REQUEST] = "stop request",
-    [POST_REASON_CONTACTOR_OPEN] = "contactor open",
-    [POST_REASON_STOP_BUTTON] = "stop button",
-    [POST_REASON_LOW_INSULATION] = "low insulation",
+    [POST_REASON_NOT_IN_PARK] = "not in park", [POST_REASON_NOT_ENABLED] = "not enabled",
+    [POST_REASON_STOP_REQUEST] = "stop request", [POST_REASON_CONTACTOR_OPEN] = "contactor open",
+    [POST_REASON_STOP_BUTTON] = "stop button", [POST_REASON_LOW_INSULATION] = "low insulation",
     [POST_REASON_PHASE_TIMEOUT] = "phase timeout",
     [POST_REASON_CHARGING_TIME_OVER] = "charging time over",
 };
 
 static const char *const answers[] = {
-    [POST_DONE] = "done",
-    [POST_REFUSED_LEADS] = "number of leads",
-    [POST_REFUSED_RATED_VOLTS] = "rated volts",
-    [POST_REFUSED_RATED_AMPERES] = "rated amperes",
+    [POST_DONE] = "done", [POST_REFUSED_LEADS] = "number of leads",
+    [POST_REFUSED_RATED_VOLTS] = "rated volts", [POST_REFUSED_RATED_AMPERES] = "rated amperes",
     [POST_REFUSED_CABLE_RESISTANCE] = "cable resistance",
     [POST_REFUSED_STATE_LENGTH] = "length of the new state",
-    [POST_REFUSED_STATE] = "state not good",
-    [POST_REFUSED_INPUT_LENGTH] = "length of the input",
-    [POST_REFUSED_OUTPUT_LENGTH] = "length of the output",
-    [POST_REFUSED_INPUT] = "input not good",
+    [POST_REFUSED_STATE] = "state not good", [POST_REFUSED_INPUT_LENGTH] = "length of the input",
+    [POST_REFUSED_OUTPUT_LENGTH] = "length of the output", [POST_REFUSED_INPUT] = "input not good",
 };
 
-static void put_number(uint8_t *place, size_t length, uint32_t number) {
-    for (size_t i = 0; i < length; i++)
-        place[i] = (uint8_t)(number >> (8 * i) & 0xFF);
-}
+/* The name of a number, which may be any: none is looked for past the end of the table. */
+#define NAME_OF(names, number) name_of(names, sizeof(names) / sizeof *(names), number)
 
-static uint32_t bits_of(float number) {
-    uint32_t bits;
-    memcpy(&bits, &number, sizeof bits);
-    return bits;
+static const char *name_of(const char *const *names, size_t count, uint32_t number) {
+    return number < count && names[number] != NULL ? names[number] : "not known to this host";
 }
 
 static void put_frame(uint8_t *record, uint16_t identifier, const uint8_t *data) {
-    put_number(record + POST_FRAME_IDENTIFIER, 2, identifier);
+    post_put_u16(record + POST_FRAME_IDENTIFIER, identifier);
     record[POST_FRAME_LENGTH] = POST_FRAME_DATA_LENGTH;
     memcpy(record + POST_FRAME_DATA, data, POST_FRAME_DATA_LENGTH);
 }
 
 static void put_car(uint8_t *record, const struct car *car, uint8_t status) {
-    uint8_t h100[POST_FRAME_DATA_LENGTH] = {0};
-    uint8_t h101[POST_FRAME_DATA_LENGTH] = {0};
+    uint8_t h100[POST_FRAME_DATA_LENGTH] = {0}, h101[POST_FRAME_DATA_LENGTH] = {0};
     uint8_t h102[POST_FRAME_DATA_LENGTH] = {0};
 
-    put_number(h100 + POST_H100_MAXIMUM_VOLTAGE, 2, car->maximum_voltage);
+    post_put_u16(h100 + POST_H100_MAXIMUM_VOLTAGE, car->maximum_voltage);
     h101[POST_H101_TIME_TENS] = car->time_tens;
     h101[POST_H101_TIME_MINUTES] = car->time_minutes;
-    put_number(h102 + POST_H102_TARGET_VOLTAGE, 2, car->target_voltage);
+    post_put_u16(h102 + POST_H102_TARGET_VOLTAGE, car->target_voltage);
     h102[POST_H102_REQUEST] = car->request;
     h102[POST_H102_STATUS] = status;
 
@@ -157,37 +136,69 @@ static void put_car(uint8_t *record, const struct car *car, uint8_t status) {
     record[POST_INPUT_FRAME_COUNT] = 3;
 }
 
-static void put_lead(uint8_t *record, const struct step *step, uint8_t amperes) {
+/* What the host drives at a lead, and its bus, which counts the frames and keeps the newest. */
+struct board {
+    uint8_t amperes, switches;
+    uint16_t test_volts;
+    bool is_opened; /* its relays, by the host itself: no charge until the lead is idle */
+    unsigned sent;
+    uint8_t frames[2 * POST_FRAME_DATA_LENGTH];
+};
+
+/* The whole record of a lead, so that of several steps the last one holds. */
+static void put_lead(uint8_t *record, const struct step *step, const struct board *board) {
+    memset(record, 0, POST_INPUT_LEAD_LENGTH);
     record[POST_INPUT_CONTACTS] = step->contacts;
     record[POST_INPUT_PRESENT] = POST_PRESENT_VOLTS | POST_PRESENT_AMPERES;
-    put_number(record + POST_INPUT_VOLTS, 4, bits_of(step->volts));
-    put_number(record + POST_INPUT_AMPERES, 4, bits_of(amperes));
+    post_put_float(record + POST_INPUT_VOLTS, step->volts);
+    post_put_float(record + POST_INPUT_AMPERES, board->amperes);
     if (step->ohms > 0) {
         record[POST_INPUT_PRESENT] |= POST_PRESENT_INSULATION;
-        put_number(record + POST_INPUT_INSULATION, 4, bits_of(step->ohms));
+        post_put_float(record + POST_INPUT_INSULATION, step->ohms);
     }
     if (step->status != SILENT)
         put_car(record, &cars[step->lead], (uint8_t)step->status);
 }
 
-/* The step that holds for a lead in this tick, NULL before its first. */
-static const struct step *step_at(unsigned now, unsigned lead) {
-    const struct step *step = NULL;
-    for (size_t i = 0; i < STEPS; i++)
-        if (session[i].lead == lead && session[i].from <= now)
-            step = &session[i];
-    return step;
+static void put_input(uint8_t *input, unsigned now, const struct board *boards) {
+    memset(input, 0, POST_INPUT_LENGTH(LEADS));
+    post_put_u32(input + POST_INPUT_POWER_LIMIT, POWER_LIMIT);
+    for (const struct step *step = session; step < session + STEPS; step++)
+        if (step->from <= now)
+            put_lead(input + POST_INPUT_LEAD(step->lead), step, &boards[step->lead]);
+    if (is_spoilt(now))
+        input[POST_INPUT_LEAD(0) + POST_INPUT_CONTACTS] |= 0x80;
 }
 
-/* Fills the input of this tick; `output` is that of the tick before. */
-static void put_input(uint8_t *input, unsigned now, const uint8_t *output) {
-    memset(input, 0, POST_INPUT_LENGTH(LEADS));
-    put_number(input + POST_INPUT_POWER_LIMIT, POST_POWER_LIMIT_LENGTH, POWER_LIMIT);
-    for (unsigned lead = 0; lead < LEADS; lead++) {
-        const struct step *step = step_at(now, lead);
-        if (step != NULL)
-            put_lead(input + POST_INPUT_LEAD(lead), step,
-                     output[POST_OUTPUT_LEAD(lead) + POST_OUTPUT_COMMAND]);
+/* Does what the output says. This board's current follows the command at once, but rises by 2 A a
+ * tick, as commands do: after a cut by the host it goes up from where it stands. */
+static void drive(struct board *board, const uint8_t *record) {
+    uint8_t command = record[POST_OUTPUT_COMMAND];
+
+    board->switches = record[POST_OUTPUT_SWITCHES];
+    board->test_volts = post_get_u16(record + POST_OUTPUT_TEST_VOLTS);
+    board->amperes = command > board->amperes + 2 ? (uint8_t)(board->amperes + 2) : command;
+    if (record[POST_OUTPUT_PHASE] == POST_PHASE_IDLE)
+        board->is_opened = false;
+    if (board->is_opened) {
+        board->switches &= POST_SWITCH_LOCK | POST_SWITCH_FRAMES;
+        board->test_volts = board->amperes = 0;
+    }
+    if (board->switches & POST_SWITCH_FRAMES) {
+        board->sent++;
+        memcpy(board->frames, record + POST_OUTPUT_H108, POST_FRAME_DATA_LENGTH);
+        memcpy(board->frames + POST_FRAME_DATA_LENGTH, record + POST_OUTPUT_H109,
+               POST_FRAME_DATA_LENGTH);
+    }
+}
+
+/* The emergency stop by the host that post.h asks for. This board's current falls by 200 A/s. */
+static void cut_off(struct board *board) {
+    board->test_volts = 0;
+    board->amperes = board->amperes > 20 ? board->amperes - 20 : 0;
+    if (board->amperes <= 5 && board->switches & (POST_SWITCH_D1 | POST_SWITCH_D2)) {
+        board->switches &= POST_SWITCH_LOCK;
+        board->is_opened = true;
     }
 }
 
@@ -195,6 +206,15 @@ static void show_steps(unsigned now) {
     for (size_t i = 0; i < STEPS; i++)
         if (session[i].from == now)
             printf("tick %3u  [lead %u: %s]\n", now, session[i].lead + 1, session[i].what);
+    if (is_spoilt(now) && !is_spoilt(now - 1))
+        printf("tick %3u  [the host has set a spare bit of the input]\n", now);
+}
+
+static void show_switches(const struct board *board) {
+    printf("%s%s%s%s", board->switches & POST_SWITCH_D1 ? ", d1" : "",
+           board->switches & POST_SWITCH_D2 ? ", d2" : "",
+           board->switches & POST_SWITCH_LOCK ? ", lock" : "",
+           board->is_opened ? ", relays opened by the host" : "");
 }
 
 /* What the desk has been shown of a lead, and how its amperes moved in the tick before. */
@@ -203,57 +223,80 @@ struct desk {
 };
 
 /* A steady ramp is one change: its amperes are shown where the ramp begins, bends and rests. */
-static void show_lead(unsigned now, unsigned lead, const uint8_t *record, struct desk *desk) {
-    const uint8_t *threshold_bytes = record + POST_OUTPUT_H108 + POST_H108_THRESHOLD;
-    int threshold = threshold_bytes[0] + 256 * threshold_bytes[1];
-    int phase = record[POST_OUTPUT_PHASE];
-    int reason = record[POST_OUTPUT_REASON];
-    int amperes = record[POST_OUTPUT_COMMAND];
+static void show_lead(unsigned now, unsigned lead, const uint8_t *record, const struct board *board,
+                      struct desk *desk) {
+    int threshold = post_get_u16(record + POST_OUTPUT_H108 + POST_H108_THRESHOLD);
+    uint8_t phase = record[POST_OUTPUT_PHASE];
+    uint8_t reason = record[POST_OUTPUT_REASON];
+    int amperes = board->amperes;
     int change = amperes - desk->amperes;
     bool moved = phase != desk->phase || reason != desk->reason || threshold != desk->threshold;
     bool bent = change != desk->change && amperes != desk->shown_amperes;
 
     if (moved || bent) {
-        printf("tick %3u  lead %u: %s, %d A", now, lead + 1, phases[phase], amperes);
+        printf("tick %3u  lead %u: %s, %d A", now, lead + 1, NAME_OF(phases, phase), amperes);
         if (threshold != 0)
             printf(", threshold %d V", threshold);
         if (reason != POST_REASON_NONE)
-            printf(", reason %d: %s", reason, reasons[reason]);
+            printf(", reason %d: %s", reason, NAME_OF(reasons, reason));
+        show_switches(board);
         printf("\n");
         desk->shown_amperes = amperes;
     }
     *desk = (struct desk){phase, reason, threshold, desk->shown_amperes, amperes, change};
 }
 
-static void show_refusal(const char *call, uint32_t number) {
-    printf("%s refused with %u: %s\n", call, (unsigned)number, answers[number]);
+static void show_refusal(unsigned now, uint32_t number, const struct board *boards) {
+    printf("tick %3u  refused with %lu: %s", now, (unsigned long)number, NAME_OF(answers, number));
+    for (unsigned lead = 0; lead < LEADS; lead++)
+        if (boards[lead].switches != 0) {
+            printf("; lead %u cut off, %d A", lead + 1, boards[lead].amperes);
+            show_switches(&boards[lead]);
+        }
+    printf("\n");
+}
+
+static void show_frames(unsigned lead, const struct board *board) {
+    printf("lead %u was sent H'108 and H'109 %u times, the last", lead + 1, board->sent);
+    for (size_t i = 0; i < sizeof board->frames; i++)
+        printf("%s%02X", i % POST_FRAME_DATA_LENGTH == 0 ? " " : "", board->frames[i]);
+    printf("\n");
 }
 
 int main(void) {
     uint8_t state[POST_STATE_LENGTH(LEADS)];
     uint8_t input[POST_INPUT_LENGTH(LEADS)];
     uint8_t output[POST_OUTPUT_LENGTH(LEADS)] = {0};
+    struct board boards[LEADS] = {{0}};
     struct desk desk[LEADS] = {{0}};
 
-    uint32_t number = setup(LEADS, RATED_VOLTS, RATED_AMPERES, bits_of(0.0F), state, sizeof state);
+    uint32_t number = post_setup(LEADS, RATED_VOLTS, RATED_AMPERES, post_float_bits(0.0F), state,
+                                 sizeof state);
     if (number != POST_DONE) {
-        show_refusal("setup", number);
+        printf("setup refused with %lu: %s\n", (unsigned long)number, NAME_OF(answers, number));
         return 1;
     }
+    /* Here no time passes. A post waits for its tenth of a second in each turn, and a timer beside
+     * this loop cuts off when a tick is late. */
     for (unsigned now = 1; now <= LAST_TICK; now++) {
         show_steps(now);
-        put_input(input, now, output);
-        number = tick(state, sizeof state, input, sizeof input, output, sizeof output);
-        if (number != POST_DONE) {
-            show_refusal("tick", number);
-            return 1;
-        }
+        put_input(input, now, boards);
+        number = post_tick(state, sizeof state, input, sizeof input, output, sizeof output);
         for (unsigned lead = 0; lead < LEADS; lead++)
-            show_lead(now, lead, output + POST_OUTPUT_LEAD(lead), &desk[lead]);
+            if (number == POST_DONE) {
+                drive(&boards[lead], output + POST_OUTPUT_LEAD(lead));
+                show_lead(now, lead, output + POST_OUTPUT_LEAD(lead), &boards[lead], &desk[lead]);
+            } else {
+                cut_off(&boards[lead]);
+                desk[lead].phase = -1; /* so that the next tick done is shown */
+            }
+        if (number != POST_DONE)
+            show_refusal(now, number, boards);
     }
-
-    printf("[an input that is one byte short]\n");
-    number = tick(state, sizeof state, input, sizeof input - 1, output, sizeof output);
-    show_refusal("tick", number);
+    for (unsigned lead = 0; lead < LEADS; lead++)
+        show_frames(lead, &boards[lead]);
+    printf("tick %3u  [a NULL for the input]\n", LAST_TICK + 1);
+    number = post_tick(state, sizeof state, NULL, sizeof input, output, sizeof output);
+    show_refusal(LAST_TICK + 1, number, boards);
     return number == POST_REFUSED_INPUT_LENGTH ? 0 : 1;
 }

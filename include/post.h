@@ -1,20 +1,20 @@
 /*
  * The control software of a DC quick charger (a post) with one to four CHAdeMO cables (leads),
- * as the C host in the post calls it. Link with libpost.a.
+ * as the C host in the post calls it. Link with libpost.a, an archive for x86-64 Linux.
  *
- * Call setup() once, then tick() every tenth of a second: it takes what contacts, meter and cars
- * say, and gives what each lead is to do. Everything passes through three byte buffers of the
- * host: state, input and output. The library has no memory of its own, so that a host may keep
- * several posts, each with its own state, and tick them in threads of their own.
+ * Call post_setup() once, then post_tick() every tenth of a second: it takes what contacts, meter
+ * and cars say, and gives what each lead is to do. Everything passes through three byte buffers of
+ * the host: state, input and output. examples/host.c is a small host.
  *
  * Comments quote document 01, the product's scope, where its word is another one: "leak trip".
  * Bytes count from 0, bits from 0 as the lowest, leads and frame records here from 0 too. Numbers
- * of several bytes are little-endian, on every machine. H' marks hexadecimal.
+ * of several bytes are little-endian, on every machine. H' marks hexadecimal. Tables and clauses
+ * (A.19, A.7.2.8) are those of IEEE 2030.1.1.
  *
  * What is left to the caller, as a pointer and a length cannot be checked:
  * - A pointer is valid for its whole length until the call returns, those to state and output for
- *   writing. It is never NULL, not even with length 0: the compiled code may assume so. For an
- *   empty buffer pass any other pointer, to one byte of the host's own for example.
+ *   writing. setup() and tick() take no NULL, not even with length 0: the compiled code may assume
+ *   so. post_setup() and post_tick() have it refused; use them.
  * - The buffers of one call do not overlap.
  * - No other thread touches them during the call.
  * - Between the calls the state belongs to the library: keep it and hand it back byte for byte.
@@ -22,12 +22,23 @@
  *
  * Everything else is checked: any numbers, any lengths and any bytes are carried out or refused
  * with the first number below that fits. A refused call changes no byte of state or output.
+ *
+ * What the calls need:
+ * - Alignment: none. A buffer may begin at any address.
+ * - Stack: less than 1 kB (measured with four leads: 648 bytes in a tick, 56 in setup). Where the
+ *   C library is bound at its first call, that call takes more; 16 kB are enough for a thread.
+ * - Threads: the library has no memory of its own, so calls on different buffers may run at once.
+ *   A host may keep several posts, each with its own state.
+ * - Time: every call ends; a tick of four leads takes less than a microsecond.
+ * - The archive is one ELF object for any x86-64 processor, with position-independent code and
+ *   System V calls. From elsewhere it needs memcpy and memset.
  */
 #ifndef POST_H_INCLUDED
 #define POST_H_INCLUDED
 
 #include <stddef.h>
 #include <stdint.h>
+#include <string.h>
 
 #ifdef __cplusplus
 extern "C" {
@@ -36,8 +47,9 @@ extern "C" {
 /*
  * Begins a post: writes the state of a post with this many leads, all of them idle. state_length
  * is POST_STATE_LENGTH(leads). resistance_bits are the 32 bits of a float, the resistance of the
- * cable in ohms, by which volts at the connector differ from volts at the meter: 0x3D800000 is
- * 0.0625. Returns POST_DONE or a refusal from POST_REFUSED_LEADS to POST_REFUSED_STATE_LENGTH.
+ * cable in ohms, by which volts at the connector differ from volts at the meter: 0x3D800000, or
+ * post_float_bits(0.0625F). Returns POST_DONE or a refusal from POST_REFUSED_LEADS to
+ * POST_REFUSED_STATE_LENGTH.
  */
 uint32_t setup(uint32_t leads, uint32_t rated_volts, uint32_t rated_amperes,
                uint32_t resistance_bits, uint8_t *state, size_t state_length);
@@ -45,8 +57,8 @@ uint32_t setup(uint32_t leads, uint32_t rated_volts, uint32_t rated_amperes,
 /*
  * Decides one tick, a tenth of a second, for all leads: changes the state and writes the output.
  * The number of leads is the state's; the lengths are POST_STATE_LENGTH, POST_INPUT_LENGTH and
- * POST_OUTPUT_LENGTH of it. Returns POST_DONE or a refusal from POST_REFUSED_STATE on; after a
- * refusal the output holds what it held before, and the post has not moved.
+ * POST_OUTPUT_LENGTH of it. Returns POST_DONE or a refusal from POST_REFUSED_STATE on: then the
+ * post has not moved, and the output holds a command that must not be driven on, see below.
  */
 uint32_t tick(uint8_t *state, size_t state_length, const uint8_t *input, size_t input_length,
               uint8_t *output, size_t output_length);
@@ -54,6 +66,86 @@ uint32_t tick(uint8_t *state, size_t state_length, const uint8_t *input, size_t 
 #ifdef __cplusplus
 }
 #endif
+
+/*
+ * The same two calls for a host: a NULL, with any length, is handed on as an empty buffer, so that
+ * the library refuses it with its own number: 5 (or less) by post_setup; 6, 7 or 8 by post_tick.
+ */
+static inline uint32_t post_setup(uint32_t leads, uint32_t rated_volts, uint32_t rated_amperes,
+                                  uint32_t resistance_bits, uint8_t *state, size_t state_length) {
+    uint8_t none = 0;
+    return setup(leads, rated_volts, rated_amperes, resistance_bits, state ? state : &none,
+                 state ? state_length : 0);
+}
+
+static inline uint32_t post_tick(uint8_t *state, size_t state_length, const uint8_t *input,
+                                 size_t input_length, uint8_t *output, size_t output_length) {
+    uint8_t none[3] = {0, 0, 0}; /* three, as buffers do not overlap */
+    return tick(state ? state : &none[0], state ? state_length : 0, input ? input : &none[1],
+                input ? input_length : 0, output ? output : &none[2], output ? output_length : 0);
+}
+
+/* Numbers in the buffers, byte by byte: at any address, and in the same order on every machine. */
+static inline void post_put_u16(uint8_t *place, uint16_t number) {
+    place[0] = (uint8_t)(number & 0xFF);
+    place[1] = (uint8_t)(number >> 8);
+}
+
+static inline void post_put_u32(uint8_t *place, uint32_t number) {
+    post_put_u16(place, (uint16_t)(number & 0xFFFF));
+    post_put_u16(place + 2, (uint16_t)(number >> 16));
+}
+
+static inline uint16_t post_get_u16(const uint8_t *place) {
+    return (uint16_t)(place[0] | place[1] << 8);
+}
+
+static inline uint32_t post_get_u32(const uint8_t *place) {
+    return post_get_u16(place) | (uint32_t)post_get_u16(place + 2) << 16;
+}
+
+/* The 32 bits of a float, as setup takes them and the buffers hold them. */
+static inline uint32_t post_float_bits(float number) {
+    uint32_t bits;
+    memcpy(&bits, &number, sizeof bits);
+    return bits;
+}
+
+static inline void post_put_float(uint8_t *place, float number) {
+    post_put_u32(place, post_float_bits(number));
+}
+
+static inline float post_get_float(const uint8_t *place) {
+    uint32_t bits = post_get_u32(place);
+    float number;
+    memcpy(&number, &bits, sizeof number);
+    return number;
+}
+
+/*
+ * When a call is refused, or comes late. The output still holds the command of the last tick done,
+ * and nobody has asked since whether it may be given. A command is good for its own tick: where no
+ * tick has been done 110 ms after the last one (Table A.12: a cycle of 100 ms, up to 10 more), or
+ * one was refused, the host makes the emergency stop by itself, at every lead of the post. Let a
+ * timer beside the ticks see to the first.
+ * 1. At once: 0 A and no test volts to the converters, their gates blocked, and no frames. By
+ *    Tables A.19 and A.35 the current falls by 200 A/s or more: from 125 A to 5 A within 0.6 s,
+ *    from 200 A within 1 s. (The 30 ms that they give when permission or lock circuit open are less
+ *    than a tick: hardware sees to them on a path of its own, A.5.2.7.)
+ * 2. At 5 A or less and not before, in an emergency too (A.7.2.8): d1, d2 and the post's relays
+ *    open. Up to here a tick that is done again takes over: its output is driven as always, but for
+ *    the current, which rises from where it stands by no more than 2 A a tick.
+ *    From here on the charge is over, as none recovers by itself (A.7.2.10): whatever is commanded,
+ *    no current, and d1, d2 and the relays stay open until the lead shows POST_PHASE_IDLE.
+ * 3. The lock stays locked until the connector has less than 10 V (Table A.17).
+ *
+ * What the numbers tell a host:
+ * - 1 to 5, 7 and 8: a mistake in its code or its settings. The same call is refused again.
+ * - 6: the state is damaged, of another edition or of a wrong length. Stay cut off. setup begins
+ *   anew, but it forgets every lead, and the next tick drives no lock: only with all unplugged.
+ * - 9: that input was not sound. Ages and silences have stood still, its frames were not heard; a
+ *   tick with a sound input goes on from there.
+ */
 
 /* What the calls return. */
 #define POST_DONE                     0
@@ -95,6 +187,14 @@ uint32_t tick(uint8_t *state, size_t state_length, const uint8_t *input, size_t 
 #define POST_INPUT_LEAD(lead)  POST_INPUT_LENGTH(lead)
 #define POST_OUTPUT_LEAD(lead) POST_OUTPUT_LENGTH(lead)
 
+/*
+ * The edition of the state: where its bytes stand and what they mean. Store it beside a state that
+ * is to outlive the program. Bytes stored under another number are not to be handed in, as they
+ * might pass for good and mean something else: begin anew with setup, when all leads are unplugged.
+ * Do so after a break of more than a tick too, as a state goes on as if no time had passed.
+ */
+#define POST_STATE_VERSION 1
+
 /* State: its head. */
 #define POST_HEAD_LEADS            0
 #define POST_HEAD_RATED_AMPERES    1
@@ -108,7 +208,7 @@ uint32_t tick(uint8_t *state, size_t state_length, const uint8_t *input, size_t 
 #define POST_LEAD_REQUEST         3  /* amperes */
 #define POST_LEAD_FAULTS          4  /* that byte of H'102, whole */
 #define POST_LEAD_STATUS          5  /* that byte of H'102, whole */
-#define POST_LEAD_SILENCE         6  /* ticks since the last H'102, up to 255 */
+#define POST_LEAD_SILENCE         6  /* ticks without H'102, up to 255, see below */
 #define POST_LEAD_SEEN            7  /* POST_SEEN_ bits */
 #define POST_LEAD_THRESHOLD       8  /* 2 bytes, volts */
 #define POST_LEAD_MAXIMUM_VOLTAGE 10 /* 2 bytes, of the battery */
@@ -117,6 +217,9 @@ uint32_t tick(uint8_t *state, size_t state_length, const uint8_t *input, size_t 
 #define POST_LEAD_TIME_MINUTES    15 /* that byte of H'101 */
 #define POST_LEAD_AGE             16 /* 4 bytes, ticks that it has stayed in its phase */
 #define POST_LEAD_SPARE           20 /* from here to the end 0 */
+
+/* The silence counts from the start of the lead on, before its first H'102 too; a tick with an
+ * H'102 sets it to 0. In phases 0, 9 and 10 it stands still. */
 
 /* Which frames of the car the lead has seen since its start. */
 #define POST_SEEN_H100 0x01
@@ -137,7 +240,7 @@ uint32_t tick(uint8_t *state, size_t state_length, const uint8_t *input, size_t 
 #define POST_INPUT_FRAMES      16 /* the frame records */
 
 /* Where a frame record begins in the record of a lead, the first being 0. Those past the count
- * are ignored. */
+ * are ignored. A host that has received more frames hands in the newest of each identifier. */
 #define POST_INPUT_FRAME(record) (POST_INPUT_FRAMES + POST_FRAME_RECORD_LENGTH * (size_t)(record))
 
 /* Contacts closed, buttons pressed; bit 7 is 0. */
@@ -233,7 +336,9 @@ uint32_t tick(uint8_t *state, size_t state_length, const uint8_t *input, size_t 
 #define POST_PHASE_FINAL_DISCHARGE   9 /* before unlocking */
 #define POST_PHASE_ENDED             10
 
-/* Why a lead stopped. 11 to 18 are urgent: no current in that very tick. */
+/* Why a lead stopped. 11 to 18 are urgent: no current in that very tick. Phase and command say all
+ * that a host has to do about it; the number is for the desk, and nothing is to be worked out from
+ * it. */
 #define POST_REASON_NONE                 0
 #define POST_REASON_EMERGENCY_BUTTON     11
 #define POST_REASON_UNPLUGGED            12 /* the plug contact opened */

@@ -1,15 +1,15 @@
-//! Inputs of every kind, whole.
+//! Inputs of every kind, whole and in pieces; and long ones, of many lines and of one: memory stays
+//! as it is, and how fast it goes.
 
-use crate::compare::{Comparison, Difference};
-use crate::dice::Dice;
-use crate::line::{join, Line, SETUP, START};
-use crate::long;
-use crate::numbers;
-use crate::odd;
-use crate::sessions;
+use std::io::Write;
+use std::time::{Duration, Instant};
+use std::{fs, thread};
 
-const MIXTURES: usize = 120;
-const NOISES: usize = 40;
+use lines::line::{answers, join, Line, SETUP, START};
+use lines::{long, numbers, odd, sessions};
+use shared::dice::Dice;
+
+use crate::compare::{self, Comparison, Outcome};
 
 /// Lines to draw from, made once.
 pub struct Stock {
@@ -19,21 +19,16 @@ pub struct Stock {
 
 impl Stock {
     pub fn new() -> Stock {
-        Stock {
-            odd: odd::lines(),
-            no_lines: odd::no_lines(),
-        }
+        let (odd, no_lines) = (odd::lines(), odd::no_lines());
+        Stock { odd, no_lines }
     }
 
     /// A post set up and ticked, with lines between that change nothing.
     pub fn session(&self, leads: u32, ticks: usize, dice: &mut Dice) -> Vec<Line> {
-        let mut lines = Vec::new();
-        sessions::roaming(leads, ticks, &self.no_lines, &mut lines, dice);
-        lines
+        sessions::roaming(leads, ticks, &self.no_lines, dice)
     }
 
-    /// Lines of all kinds, of about this many bytes. One in two has no line feed
-    /// at its end.
+    /// Lines of all kinds, of about this many bytes. One in two has no line feed at its end.
     pub fn mixture(&self, size: usize, dice: &mut Dice) -> Vec<u8> {
         let mut text = Vec::new();
         while text.len() < size {
@@ -48,50 +43,23 @@ impl Stock {
     fn some_lines(&self, dice: &mut Dice) -> Vec<Line> {
         let leads = 1 + dice.below(4);
         match dice.below(40) {
-            0 => vec![self.long_line(dice)],
-            1..10 => {
-                let at = dice.below(self.odd.len() as u32) as usize;
-                vec![self.odd[at].clone()]
+            0 => {
+                let forms = long::forms(dice.pick(&long::LENGTHS[..11]), dice);
+                vec![forms[dice.below(12) as usize].clone()]
             }
-            10..15 => vec![numbers::good(leads, dice).line()],
+            1..10 => vec![self.odd[dice.below(self.odd.len() as u32) as usize].clone()],
+            10..15 => vec![numbers::line(&numbers::good(leads, dice))],
             15..20 => {
-                let number = 1 + dice.below(4);
-                vec![numbers::refused(number, leads, dice).line()]
+                let number = dice.pick(&numbers::refusals());
+                vec![numbers::refused(number, leads, dice)]
             }
-            _ => {
-                let ticks = dice.below(40) as usize;
-                self.session(leads, ticks, dice)
-            }
-        }
-    }
-
-    fn long_line(&self, dice: &mut Dice) -> Line {
-        let length = dice.pick(&long::LENGTHS[..11]);
-        match dice.below(4) {
-            0 => long::rubbish(length, dice),
-            1 => long::overrun(length.max(1_001)),
-            2 => long::tailed(length, START.as_bytes()),
-            _ => long::sound(length),
+            _ => self.session(leads, dice.below(40) as usize, dice),
         }
     }
 }
 
-pub fn compare(stock: &Stock, comparison: &mut Comparison) -> Result<(), Difference> {
+pub fn compare(stock: &Stock, comparison: &mut Comparison) -> Outcome {
     let mut dice = Dice::new(0xD1B5_4A32_D192_ED03);
-    shortest(comparison)?;
-    beginnings(comparison)?;
-    long_lines(comparison, &mut dice)?;
-    for _ in 0..MIXTURES {
-        let size = 1 + dice.below(40_000) as usize;
-        comparison.same("a mixture of lines", &stock.mixture(size, &mut dice))?;
-    }
-    for _ in 0..NOISES {
-        noise(comparison, &mut dice)?;
-    }
-    Ok(())
-}
-
-fn shortest(comparison: &mut Comparison) -> Result<(), Difference> {
     comparison.same("nothing", b"")?;
     for byte in 0..=255 {
         comparison.same("one byte", &[byte])?;
@@ -99,62 +67,118 @@ fn shortest(comparison: &mut Comparison) -> Result<(), Difference> {
     for text in ["\n\n", "\r\n", "\n\r", "\n\0", "tick\t\n\n", "\ntick\t"] {
         comparison.same("a few bytes", text.as_bytes())?;
     }
-    Ok(())
-}
-
-/// Every beginning of document 01's whole case and a tick more.
-fn beginnings(comparison: &mut Comparison) -> Result<(), Difference> {
     let text = format!("{SETUP}\n{START}\ntick\t\n");
     for length in 0..=text.len() {
-        let beginning = &text.as_bytes()[..length];
-        comparison.same("a beginning of the whole case", beginning)?;
+        comparison.same("a beginning of the whole case", &text.as_bytes()[..length])?;
+    }
+    // Every length in every form: alone, without its line feed, and among lines.
+    for length in long::LENGTHS {
+        for line in long::forms(length, &mut dice) {
+            comparison.same("one long line", &line)?;
+            let [setup, tick] = [SETUP, START].map(Line::from);
+            let among = join(&[setup, tick.clone(), line, tick]);
+            comparison.same("a long line among others", &among)?;
+        }
+    }
+    for _ in 0..120 {
+        let size = 1 + dice.below(40_000) as usize;
+        comparison.same("a mixture of lines", &stock.mixture(size, &mut dice))?;
+    }
+    for _ in 0..40 {
+        noise(comparison, &mut dice)?;
+    }
+    for _ in 0..40 {
+        let size = dice.pick(&[200, 3_000, 20_000, 100_000, 400_000]);
+        let text = stock.mixture(size, &mut dice);
+        comparison.same_in_pieces("an input in pieces", &text, &draw_sizes(&mut dice))?;
+    }
+    // A short text cut in two at every place.
+    let text = format!("{SETUP}\n{START}\n\ntick\t");
+    for cut in 1..text.len() {
+        comparison.same_in_pieces("a text cut in two", text.as_bytes(), &[cut])?;
     }
     Ok(())
 }
 
-/// Every length in every form: alone, without its line feed, and among lines.
-fn long_lines(comparison: &mut Comparison, dice: &mut Dice) -> Result<(), Difference> {
-    let setup = Line::from(SETUP);
-    let tick = Line::from(START);
-    for length in long::LENGTHS.into_iter().chain([long::LONGEST]) {
-        let forms = [
-            long::tick(length),
-            long::setup(length, 0),
-            long::setup(length, 1),
-            long::setup(length, 2),
-            long::rubbish(length, dice),
-            long::tailed(length, &tick),
-            long::tailed(length, &setup),
-            long::headed(&tick, length),
-            long::headed(&setup, length),
-            long::overrun(length.max(1_001)),
-        ];
-        for line in forms {
-            comparison.same("one long line", &line)?;
-            let among = [setup.clone(), tick.clone(), line.clone(), tick.clone()];
-            comparison.same("a long line among others", &join(&among))?;
-        }
-    }
-    Ok(())
+/// Single bytes, lines or so, sizes of buffers, or anything up to 100,000.
+fn draw_sizes(dice: &mut Dice) -> Vec<usize> {
+    let most = dice.pick(&[1, 8, 60, 1_000, 8_192, 100_000, 0]);
+    let size = |_| match most {
+        0 => dice.pick(&[1, 4_095, 4_096, 4_097, 8_192, 65_535, 65_536, 65_537]),
+        _ => 1 + dice.below(most) as usize,
+    };
+    (0..150).map(size).collect()
 }
 
 /// Bytes that make up no lines but by chance: any, or of few kinds.
-fn noise(comparison: &mut Comparison, dice: &mut Dice) -> Result<(), Difference> {
+fn noise(comparison: &mut Comparison, dice: &mut Dice) -> Outcome {
+    const WORDS: &str = "setup tick \t \t \t \t \n \n 1 2 4 50 500 125 00000000 3F000000 00 21 \r";
     let length = 1 + dice.below(200_000) as usize;
     let any: Vec<u8> = (0..length).map(|_| dice.byte()).collect();
     comparison.same("any bytes", &any)?;
-
-    let few = b"0123456789\t\n";
-    let digits: Vec<u8> = (0..length / 8).map(|_| dice.pick(few)).collect();
-    comparison.same("digits, tabs and line feeds", &digits)?;
-
-    let feeds: Vec<u8> = (0..length / 8).map(|_| dice.pick(b"\n\n\n\r\t")).collect();
-    comparison.same("little but line feeds", &feeds)?;
-
-    const WORDS: [&str; 20] = [
-        "setup", "tick", "\t", "\t", "\t", "\t", "\n", "\n", "1", "2", "4", "50", "500", "125",
-        "00000000", "3F000000", "00", "21", "\r", " ",
-    ];
-    let words: Vec<&str> = (0..length / 16).map(|_| dice.pick(&WORDS)).collect();
+    for few in [&b"0123456789\t\n"[..], b"\n\n\n\r\t"] {
+        let bytes: Vec<u8> = (0..length / 8).map(|_| dice.pick(few)).collect();
+        comparison.same("bytes of few kinds", &bytes)?;
+    }
+    let words: Vec<&str> = WORDS.split(' ').chain([" "]).collect();
+    let words: Vec<&str> = (0..length / 16).map(|_| dice.pick(&words)).collect();
     comparison.same("words and tabs", words.concat().as_bytes())
+}
+
+/// Some 2 MB of four leads' ticks.
+const TICKS: usize = 2_900;
+const TIMES_LONGER: usize = 10;
+
+/// In KB.
+const MOST_GROWTH: u64 = 1_024;
+
+/// After the input is taken, for what the program still does with it.
+const PAUSE: Duration = Duration::from_millis(300);
+
+/// Says what it found.
+pub fn steady(stock: &Stock, comparison: &mut Comparison) -> Result<String, String> {
+    let mut dice = Dice::new(0xE703_7ED1_A0B4_28DB);
+    let ticks = join(&stock.session(4, TICKS, &mut dice));
+    let more = ticks.repeat(TIMES_LONGER);
+    let [line, longer] = [&ticks, &more].map(|text| long::tick(text.len()));
+    let mut figures = String::new();
+    for (short, long) in [(line, longer), (ticks, more)] {
+        let (for_short, _) = measure(&short, comparison)?;
+        let (for_long, seconds) = measure(&long, comparison)?;
+        let bytes = long.len();
+        if for_long > for_short + MOST_GROWTH {
+            let told = format!("{for_short} KB for less, {for_long} KB for {bytes} bytes");
+            return Err(format!("memory grows with the input: {told}"));
+        }
+        let answers = answers(&long);
+        let answers = answers.split(|&byte| byte == b'\n');
+        let done = answers.filter(|answer| answer.starts_with(b"0\t")).count();
+        let speed = format!("{:.0} ticks of four leads a second", done as f64 / seconds);
+        figures = format!("bench: {for_long} KB of memory after {bytes} bytes; {speed}");
+    }
+    Ok(figures)
+}
+
+/// The most memory that the program has had, in KB, and the seconds that it took.
+fn measure(input: &[u8], comparison: &mut Comparison) -> Result<(u64, f64), String> {
+    let mut measured = Err("the input wasn't taken".to_string());
+    let run = compare::run(&comparison.program, |mut stdin, number| {
+        let start = Instant::now();
+        if stdin.write_all(input).is_ok() {
+            let seconds = start.elapsed().as_secs_f64();
+            thread::sleep(PAUSE);
+            // The program still waits for more, and so can be asked about.
+            measured = peak(number).map(|peak| (peak, seconds));
+        }
+    });
+    comparison.held_to_second("a long input", input, run, false)?;
+    measured
+}
+
+fn peak(number: u32) -> Result<u64, String> {
+    let path = format!("/proc/{number}/status");
+    let status = fs::read_to_string(&path).map_err(|error| format!("{path}: {error}"))?;
+    let line = status.lines().find_map(|line| line.strip_prefix("VmHWM:"));
+    let peak = line.and_then(|line| line.trim().strip_suffix(" kB")?.parse().ok());
+    peak.ok_or_else(|| format!("{path} doesn't tell the peak of memory"))
 }

@@ -1,16 +1,15 @@
-//! The lines in their order.
+//! The lines of `bench_lines` in their order.
 
 use second::inputs::LeadInput;
 use second::lead::contact::{PLUG, START_BUTTON};
-use second::post::input_bytes;
+use second::lead::input_place::OHMS;
+use second::lead::{QUESTIONS, REASON_NONE};
+use second::post::{input_bytes, ALLOWANCE_BYTES};
+use shared::dice::Dice;
+use shared::post::input;
 
-use crate::dice::Dice;
-use crate::line::{join, whole_tick, Line, SETUP, START};
-use crate::long;
-use crate::numbers::{self, Numbers, PLAIN};
-use crate::odd;
-use crate::refused;
-use crate::sessions;
+use crate::line::{join, setup, whole_tick, Line, SETUP, START};
+use crate::{long, numbers, odd, refused, sessions};
 
 /// The text that the bench program reads: the last line has no line feed.
 pub fn text() -> Vec<u8> {
@@ -20,122 +19,95 @@ pub fn text() -> Vec<u8> {
 }
 
 fn lines() -> Vec<Line> {
-    let mut dice = Dice::new(0x2545_F491_4F6C_DD1D);
+    let dice = &mut Dice::new(0x2545_F491_4F6C_DD1D);
     let no_lines = odd::no_lines();
-    let mut lines = Vec::new();
-    before_a_setup(&no_lines, &mut lines, &mut dice);
-    whole_case(&mut lines);
-    odd_lines(&mut lines);
-    setups(&mut lines, &mut dice);
-    lengths_of_inputs(&mut lines, &mut dice);
-    sessions::kept(&mut lines, &mut dice);
-    sessions::every_stop(&no_lines, &mut lines, &mut dice);
-    for leads in 2..=4 {
-        sessions::sharing(leads, &no_lines, &mut lines, &mut dice);
+    let mut lines = before_a_setup(&no_lines, dice);
+    lines.extend([SETUP, START].map(Line::from));
+    // Now and then a tick shows how the post stands.
+    for some in odd::lines().chunks(16) {
+        lines.extend_from_slice(some);
+        lines.push(Line::from(START));
+    }
+    // After each setup, taken or not, what the post makes of a tick.
+    for setup in numbers::edges() {
+        lines.extend([setup, probe(dice)]);
+    }
+    for leads in 1..=4 {
+        lines.extend(lengths_of_inputs(leads, dice));
+    }
+    lines.extend([0, 0xA5].map(|byte| refused::longest(byte, dice)));
+    // The second lead charges on, up to the next setup.
+    let unchanging = refused::each_kind(dice);
+    lines.extend(sessions::stopped(6, &[24, REASON_NONE], unchanging, dice));
+    let several = [&[24, 26][..], &[20, 14, 26], &[25, 11, 17, 23]];
+    let mut stops: Vec<(u8, Vec<u8>)> = several.map(|stops| (6, stops.to_vec())).to_vec();
+    for question in &QUESTIONS {
+        let phase = match question.number {
+            // The shortest wait there is.
+            28 => 2,
+            // In 7 and 8 no reason is recorded.
+            _ => dice.pick(&[question.first, question.last.min(6)]),
+        };
+        stops.push((phase, vec![question.number]));
+    }
+    for (phase, questions) in stops {
+        let unchanging = vec![refused::any(questions.len(), &no_lines, dice)];
+        lines.extend(sessions::stopped(phase, &questions, unchanging, dice));
     }
     for (leads, ticks) in [(1, 20), (2, 8), (3, 4), (4, 2)] {
-        sessions::roaming(leads, ticks, &no_lines, &mut lines, &mut dice);
+        lines.extend(sessions::roaming(leads, ticks, &no_lines, dice));
     }
-    long_lines(&mut lines, &mut dice);
-    // Carried out, and without its line feed.
-    lines.push(probe(&mut dice));
+    // The last one is carried out, without its line feed.
+    lines.extend(long_lines(dice));
     lines
 }
 
 /// A start, and a reading that shows the cable resistance: 400.25 V and 10 A.
 fn probe(dice: &mut Dice) -> Line {
     let lead = LeadInput::new(PLUG | START_BUTTON).reading(400.25, 10.0);
-    let input = [&[0; 4], &lead.0[..12]].concat();
-    whole_tick(&input, dice)
+    whole_tick(&input(0, [lead])[..ALLOWANCE_BYTES + OHMS], dice)
 }
 
 /// No tick is understood yet, whatever was refused before it.
-fn before_a_setup(no_lines: &[Line], lines: &mut Vec<Line>, dice: &mut Dice) {
-    lines.push(probe(dice));
-    lines.push(b"tick\t".to_vec());
+fn before_a_setup(no_lines: &[Line], dice: &mut Dice) -> Vec<Line> {
+    let mut lines = vec![probe(dice), b"tick\t".to_vec()];
     lines.extend(no_lines.iter().step_by(29).cloned());
     lines.push(refused::longest(0, dice));
-    for number in 1..=4 {
-        lines.push(numbers::refused(number, 1, dice).line());
-        lines.push(probe(dice));
+    for number in numbers::refusals() {
+        lines.extend([numbers::refused(number, 1, dice), probe(dice)]);
     }
-    lines.push(format!("{SETUP}\r").into_bytes());
+    lines.extend([format!("{SETUP}\r").into_bytes(), probe(dice)]);
+    lines
+}
+
+/// Inputs that are short, whole and too long, and flaws in the last lead.
+fn lengths_of_inputs(leads: usize, dice: &mut Dice) -> Vec<Line> {
+    let whole = input_bytes(leads);
+    let mut lines = vec![setup(&[&leads.to_string()])];
+    for length in [0, 1, 3, 4, 5, whole - 1, whole] {
+        lines.push(whole_tick(&vec![0; length], dice));
+    }
+    // Surplus counts before a flaw.
+    lines.extend([0, 0xFF].map(|byte| refused::surplus(leads, byte, dice)));
+    // In one lead all of them, in the later ones a few.
+    for flaw in refused::flaws().into_iter().step_by(2 * leads - 1) {
+        lines.push(refused::flawed(leads - 1, flaw, dice));
+    }
     lines.push(probe(dice));
+    lines
 }
 
-fn whole_case(lines: &mut Vec<Line>) {
-    lines.push(Line::from(SETUP));
-    lines.push(Line::from(START));
-}
-
-/// Now and then a tick shows how the post stands.
-fn odd_lines(lines: &mut Vec<Line>) {
-    for (at, line) in odd::lines().into_iter().enumerate() {
-        lines.push(line);
-        if at % 16 == 0 {
-            lines.push(Line::from(START));
-        }
-    }
-}
-
-/// After each setup, taken or not, what the post makes of a tick.
-fn setups(lines: &mut Vec<Line>, dice: &mut Dice) {
-    for numbers in numbers::edges() {
-        lines.push(numbers.line());
-        lines.push(probe(dice));
-    }
-}
-
-/// For each number of leads inputs that are short, whole and too long, and flaws
-/// in the last lead.
-fn lengths_of_inputs(lines: &mut Vec<Line>, dice: &mut Dice) {
-    for leads in 1..=4 {
-        let numbers = Numbers {
-            leads: leads as u32,
-            ..PLAIN
-        };
-        lines.push(numbers.line());
-        let whole = input_bytes(leads);
-        for length in [0, 1, 3, 4, 5, whole - 1, whole] {
-            lines.push(whole_tick(&vec![0; length], dice));
-        }
-        // Surplus counts before a flaw.
-        for byte in [0, 0xFF] {
-            lines.push(refused::surplus(leads, 1, byte, dice));
-        }
-        // In one lead all of them, in the later ones a few.
-        for flaw in refused::FLAWS.into_iter().step_by(2 * leads - 1) {
-            lines.push(refused::flawed(leads - 1, flaw, dice));
-        }
-        lines.push(probe(dice));
-    }
-    for byte in [0, 0xA5] {
-        lines.push(refused::longest(byte, dice));
-    }
-}
-
-/// After each long line a short one that is answered. The longest come in one
-/// form each, as a slow program has to read them too.
-fn long_lines(lines: &mut Vec<Line>, dice: &mut Dice) {
+/// After the long lines of each length a short one that is answered. The longest come in one form
+/// each, as a slow program has to read them too.
+fn long_lines(dice: &mut Dice) -> Vec<Line> {
+    let mut lines = Vec::new();
     for (at, length) in long::LENGTHS.into_iter().enumerate() {
-        let forms = match length {
-            ..2_000 => vec![
-                long::tick(length),
-                long::setup(length, at % 3),
-                long::rubbish(length, dice),
-            ],
-            _ if at % 2 == 0 => vec![long::sound(length)],
-            _ => vec![long::rubbish(length, dice)],
-        };
-        for line in forms {
-            lines.push(line);
-            lines.push(probe(dice));
+        let forms = long::forms(length, dice);
+        match length {
+            ..2_000 => lines.extend(forms[at % 2..7].iter().step_by(2).cloned()),
+            _ => lines.push(forms[at % 7].clone()),
         }
+        lines.push(probe(dice));
     }
-    for length in [1_000, 1_001] {
-        lines.push(long::overrun(length + 1));
-        lines.push(long::tailed(length, START.as_bytes()));
-    }
-    lines.push(long::headed(START.as_bytes(), 1_000));
-    lines.push(long::sound(long::LONGEST));
+    lines
 }

@@ -1,468 +1,316 @@
 //! How often each thing worth testing occurs in the lines and their answers.
 
 use std::collections::BTreeMap;
-use std::fmt::Write;
-use std::ops::RangeInclusive;
+use std::fmt::Display;
 
-use second::lead::{INPUT_BYTES, OUTPUT_BYTES};
-use second::post::{input_bytes, ALLOWANCE_BYTES};
+use lines::line::{understood, Line};
+use lines::{long, numbers, odd};
+use second::bench::LONGEST_LINE;
+use second::lead::input_place::VOLTS;
+use second::lead::output_place::{COMMAND, PHASE, REASON};
+use second::lead::{Input, INPUT_BYTES, LAST_PHASE, OUTPUT_BYTES, QUESTIONS, REASON_NONE};
+use second::post::{input_bytes, ALLOWANCE_BYTES, REFUSED_INPUT, REFUSED_INPUT_LENGTH};
+use second::sharing::MOST_LEADS;
+use shared::numbers::PLAIN;
+use shared::post::Post;
 
-use crate::line::understood;
-use crate::long;
-use crate::repairs::{faults, faults_of};
-
-/// Of the lines, in bytes.
-const SIZE: RangeInclusive<usize> = 200_000..=500_000;
-
-/// Lines whose answers are plain from document 01; of a tick that is carried out
-/// the beginning.
-const ANSWERS: &[(&str, &str)] = &[
-    ("", "?"),
-    ("\r", "?"),
-    ("\0", "?"),
-    ("\t", "?"),
-    ("tick", "?"),
-    ("tick\t", "0\t"),
-    ("tick\t\t", "?"),
-    ("tick\t00\t", "?"),
-    ("setup\t0\t500\t125\t00000000", "1"),
-    ("setup\t4\t500\t125\t00000000", "0"),
-    ("setup\t5\t500\t125\t00000000", "1"),
-    ("setup\t257\t500\t125\t00000000", "1"),
-    ("setup\t65535\t500\t125\t00000000", "1"),
-    ("setup\t65536\t500\t125\t00000000", "?"),
-    ("setup\t1\t49\t125\t00000000", "2"),
-    ("setup\t1\t50\t125\t00000000", "0"),
-    ("setup\t1\t501\t125\t00000000", "2"),
-    ("setup\t1\t65535\t125\t00000000", "2"),
-    ("setup\t1\t65536\t125\t00000000", "?"),
-    ("setup\t1\t500\t0\t00000000", "3"),
-    ("setup\t1\t500\t1\t00000000", "0"),
-    ("setup\t1\t500\t200\t00000000", "0"),
-    ("setup\t1\t500\t201\t00000000", "3"),
-    ("setup\t1\t500\t381\t00000000", "3"),
-    ("setup\t1\t500\t65535\t00000000", "3"),
-    ("setup\t1\t500\t65536\t00000000", "?"),
-    ("setup\t1\t500\t125\t80000000", "0"),
-    ("setup\t1\t500\t125\t80000001", "4"),
-    ("setup\t1\t500\t125\t00000001", "0"),
-    ("setup\t1\t500\t125\t3F000000", "0"),
-    ("setup\t1\t500\t125\t3f000000", "0"),
-    ("setup\t1\t500\t125\t3F800000", "0"),
-    ("setup\t1\t500\t125\t3F800001", "4"),
-    ("setup\t1\t500\t125\t7F800000", "4"),
-    ("setup\t1\t500\t125\tFF800000", "4"),
-    ("setup\t1\t500\t125\t7FC00000", "4"),
-    ("setup\t1\t500\t125\t7fc00000", "4"),
-    ("setup\t1\t500\t125\tFFC00000", "4"),
-    ("setup\t1\t500\t125\t7F800001", "4"),
-    ("setup\t0\t0\t0\t7FC00000", "1"),
-    ("setup\t4\t0\t0\t7FC00000", "2"),
-    ("setup\t4\t50\t0\t7FC00000", "3"),
-    ("setup\t4\t50\t1\t7FC00000", "4"),
-    ("setup\t0\t65536\t125\t00000000", "?"),
-    ("setup\t0\t500\t125\t0000000g", "?"),
-    ("setup\t1\t0\t65536\t00000000", "?"),
-    ("setup\t1\t500\t0\t0000000", "?"),
+/// Answers that are plain from document 01, of a tick that is carried out the beginning; and their
+/// lines.
+#[rustfmt::skip]
+const ANSWERS: [(&str, &[&str]); 2] = [
+    ("?", &["", "\r", "\0", "\t", "tick", "tick\t\t", "tick\t00\t"]),
+    ("0\t", &["tick\t"]),
 ];
 
-/// What comes between two ticks and leaves the post as it is. No line brings
-/// about 5, 6 or 8: the bench program lends state and output of the right length
-/// and never a state but its own.
-const BETWEEN: [&str; 9] = [
-    "setup answered 1",
-    "setup answered 2",
-    "setup answered 3",
-    "setup answered 4",
-    "setup answered ?",
-    "tick answered 7",
-    "tick answered 9",
-    "tick answered ?",
-    "other line",
+/// Setups, likewise: leads, volts, amperes and resistance.
+#[rustfmt::skip]
+const SETUPS: [(&str, &[&str]); 6] = [
+    ("0", &["4 500 125 00000000", "1 50 125 00000000", "1 500 1 00000000", "1 500 200 00000000", "1 500 125 80000000",
+            "1 500 125 00000001", "1 500 125 3F000000", "1 500 125 3f000000", "1 500 125 3F800000"]),
+    ("1", &["0 500 125 00000000", "5 500 125 00000000", "257 500 125 00000000", "65535 500 125 00000000", "0 0 0 7FC00000"]),
+    ("2", &["1 49 125 00000000", "1 501 125 00000000", "1 65535 125 00000000", "4 0 0 7FC00000"]),
+    ("3", &["1 500 0 00000000", "1 500 201 00000000", "1 500 381 00000000", "1 500 65535 00000000", "4 50 0 7FC00000"]),
+    ("4", &["1 500 125 80000001", "1 500 125 3F800001", "1 500 125 7F800000", "1 500 125 FF800000", "1 500 125 7FC00000",
+            "1 500 125 7fc00000", "1 500 125 FFC00000", "1 500 125 7F800001", "4 50 1 7FC00000"]),
+    ("?", &["65536 500 125 00000000", "1 65536 125 00000000", "1 500 65536 00000000", "0 65536 125 00000000", "0 500 125 0000000g",
+            "1 0 65536 00000000", "1 500 0 0000000"]),
 ];
 
-/// A line with its answer and what was before.
-struct Exchange<'a> {
-    line: &'a [u8],
-    answer: &'a str,
-    leads: usize,
-    before: &'a Before,
+#[rustfmt::skip]
+const KINDS: [&str; 10] = [
+    "lines", "of a fit size", "last line without its line feed", "every byte", "? before any setup", "setup answered 0",
+    "tick answered 0", "setup throws away a lead that charges", "two commands apart in phase 6", FALLS_AND_RISES,
+];
+const FALLS_AND_RISES: &str = "one command falls in phase 6, another rises";
+const ONE_ZERO_TOO_MANY: &str = "1001 characters, accepted but for one zero";
+
+/// `#` is a number of leads, or a lead.
+#[rustfmt::skip]
+const KINDS_OF_LEADS: [&str; 9] = [
+    "leads #", "charging at once: #", "# leads, no input", "# leads, short input", "# leads, whole input",
+    "7 for one byte too many, # leads", "7 for a zero byte too many, # leads", "7 before 9, # leads", "9 for lead #",
+];
+
+/// The text with each of the items in place of `#`.
+fn each<T: Display>(text: &str, items: impl IntoIterator<Item = T>) -> Vec<String> {
+    let filled = |item: T| text.replace('#', &item.to_string());
+    items.into_iter().map(filled).collect()
 }
 
-/// The state of things before a line.
+/// Everything that must occur, beside the lines with known answers. No line brings about another
+/// refusal: the bench program lends state and output of the right length and never a state but its
+/// own.
+fn kinds() -> Vec<String> {
+    let mut setups = each("setup answered #", numbers::refusals());
+    setups.push("setup answered ?".to_string());
+    let ticks = each("tick answered #", [REFUSED_INPUT_LENGTH, REFUSED_INPUT]);
+    let others = each("#", ["tick answered ?", "other line"]);
+    let unchanging = [&setups[..], &ticks, &others].concat();
+    let mut all = vec![
+        each("#", KINDS),
+        each("tick before a post, after #", &setups),
+        each("charging goes on after #", &unchanging),
+        unchanging,
+        each("phase #", 0..=LAST_PHASE),
+        each("reason #", QUESTIONS.iter().map(|question| question.number)),
+        each("command above 0 in phase #", [6, 7]),
+        each("letters: #", ["capital", "small", "both"]),
+        each("9 for byte # of a lead", 0..VOLTS),
+        each("# characters", long::LENGTHS),
+        each("long rubbish, #", ["tabs", "digits", "other"]),
+    ];
+    all.extend(KINDS_OF_LEADS.map(|text| each(text, 1..=MOST_LEADS)));
+    all.concat()
+}
+
+/// A name, a line, and its answer or the first field of it.
+type Known = (String, Line, &'static str);
+
+fn known_answers() -> Vec<Known> {
+    let long_lines = [
+        ("999 characters, tick answered 7", long::tick(999), "7"),
+        ("1000 characters, accepted", long::setup(1_000, 1), "0"),
+        (ONE_ZERO_TOO_MANY, long::setup(1_001, 0), "?"),
+    ];
+    let named = |(name, line, answer): (&str, Line, _)| (name.to_string(), line, answer);
+    let mut all: Vec<Known> = long_lines.map(named).to_vec();
+    for (name, line) in odd::faults() {
+        all.push((format!("? {name}"), line, "?"));
+    }
+    let mut add = |text: String, answer| {
+        all.push((format!("{text:?} answered {answer:?}"), text.into(), answer));
+    };
+    for (answer, lines) in ANSWERS {
+        lines.iter().for_each(|line| add(line.to_string(), answer));
+    }
+    for (answer, setups) in SETUPS {
+        for setup in setups {
+            add(format!("setup {setup}").replace(' ', "\t"), answer);
+        }
+    }
+    all
+}
+
 #[derive(Default)]
-struct Before {
+struct Coverage {
+    counts: BTreeMap<String, usize>,
+    known: Vec<Known>,
     /// Of the post set up, 0 without one.
     leads: usize,
     /// What the newest tick showed.
     shown: Vec<u8>,
     /// The kinds of the lines since then.
-    between: Vec<&'static str>,
+    between: Vec<String>,
 }
 
 /// The table, and how many things never occur.
 pub fn report(text: &[u8], answers: &[u8]) -> (String, usize) {
     let lines: Vec<&[u8]> = text.split(|&byte| byte == b'\n').collect();
-    let answers = std::str::from_utf8(answers).expect("answers are ASCII");
-    let answers: Vec<&str> = answers.lines().collect();
+    let answers: Vec<&str> = ascii(answers).lines().collect();
     assert_eq!(lines.len(), answers.len(), "an answer to every line");
-
-    let mut counts: BTreeMap<String, usize> = BTreeMap::new();
-    for label in of_text(text, lines.len()) {
-        *counts.entry(label).or_default() += 1;
-    }
-    let mut before = Before::default();
+    let mut coverage = Coverage {
+        known: known_answers(),
+        ..Coverage::default()
+    };
+    let every_byte = (0..=255).all(|byte| text.contains(&byte));
+    coverage.count(text.len() >= 200_000, "of a fit size", "");
+    let is_cut = !text.ends_with(b"\n");
+    coverage.count(is_cut, "last line without its line feed", "");
+    coverage.count(every_byte, "every byte", "");
     for (line, answer) in lines.iter().zip(answers) {
-        let exchange = Exchange {
-            line,
-            answer,
-            leads: leads_after(line, answer, before.leads),
-            before: &before,
+        coverage.count_line(line, answer);
+    }
+    coverage.table()
+}
+
+impl Coverage {
+    fn table(mut self) -> (String, usize) {
+        let known = self.known.iter().map(|(name, ..)| name.clone());
+        let mut labels: Vec<String> = kinds().into_iter().chain(known).collect();
+        // A fault may have several lines, one after the other.
+        labels.dedup();
+        let mut table = String::new();
+        let mut missing = Vec::new();
+        for label in labels {
+            let count = self.counts.remove(&label).unwrap_or(0);
+            table += &format!("{count}\t{label}\n");
+            if count == 0 {
+                missing.push(label);
+            }
+        }
+        // A label that is not expected is one that the rules exclude.
+        missing.extend(each("(not expected) #", self.counts.keys()));
+        table += &each("missing: #\n", &missing).concat();
+        (table, missing.len())
+    }
+
+    /// The label with the item in place of `#`, if it is so.
+    fn count(&mut self, is_so: bool, label: &str, item: impl Display) {
+        if is_so {
+            let label = label.replace('#', &item.to_string());
+            *self.counts.entry(label).or_default() += 1;
+        }
+    }
+
+    fn count_line(&mut self, line: &[u8], answer: &str) {
+        let fields: Vec<&[u8]> = line.split(|&byte| byte == b'\t').collect();
+        let number = answer.split('\t').next().unwrap_or_default();
+        let kind = match fields[0] {
+            b"setup" => format!("setup answered {number}"),
+            b"tick" => format!("tick answered {number}"),
+            _ if number == "?" => "other line".to_string(),
+            _ => format!("other line answered {number}"),
         };
-        for label in exchange.labels() {
-            *counts.entry(label).or_default() += 1;
-        }
-        before = exchange.after();
-    }
-    table(counts)
-}
-
-fn table(mut counts: BTreeMap<String, usize>) -> (String, usize) {
-    let mut text = String::new();
-    let mut missing = Vec::new();
-    for label in expected() {
-        let count = counts.remove(&label).unwrap_or(0);
-        if count == 0 {
-            missing.push(label.clone());
-        }
-        // A string takes any text.
-        let _ = writeln!(text, "{count}\t{label}");
-    }
-    // A label that is not expected is one that the rules exclude.
-    for label in counts.keys() {
-        missing.push(format!("(not expected) {label}"));
-    }
-    for label in &missing {
-        let _ = writeln!(text, "missing: {label}");
-    }
-    (text, missing.len())
-}
-
-/// Everything that must occur.
-fn expected() -> Vec<String> {
-    let mut all: Vec<String> = [
-        "lines",
-        "of a fit size",
-        "last line without its line feed",
-        "every byte",
-        "? before any setup",
-        "setup answered 0",
-        "tick answered 0",
-    ]
-    .map(String::from)
-    .to_vec();
-    all.extend(BETWEEN.map(String::from));
-    all.extend(
-        BETWEEN[..5]
-            .iter()
-            .map(|kind| format!("tick before a post, after {kind}")),
-    );
-    all.extend(BETWEEN.map(|kind| format!("charging goes on after {kind}")));
-    all.push("setup throws away a lead that charges".to_string());
-    all.extend((0..=10).map(|phase| format!("phase {phase}")));
-    all.extend((11..=29).map(|reason| format!("reason {reason}")));
-    all.extend((1..=4).map(|leads| format!("leads {leads}")));
-    all.extend((1..=4).map(|leads| format!("charging at once: {leads}")));
-    all.extend([6, 7].map(|phase| format!("command above 0 in phase {phase}")));
-    all.push("two commands apart in phase 6".to_string());
-    all.push("one command falls in phase 6, another rises".to_string());
-    all.extend(["capital", "small", "both"].map(|case| format!("letters: {case}")));
-    for leads in 1..=4 {
-        all.extend(["no", "short", "whole"].map(|size| format!("{leads} leads, {size} input")));
-        all.push(format!("7 for one byte too many, {leads} leads"));
-        all.push(format!("7 for a zero byte too many, {leads} leads"));
-        all.push(format!("7 before 9, {leads} leads"));
-        all.push(format!("9 for lead {leads}"));
-    }
-    all.extend((0..4).map(|at| format!("9 for byte {at} of a lead")));
-    let lengths = long::LENGTHS.iter().chain([&long::LONGEST]);
-    all.extend(lengths.map(|length| format!("{length} characters")));
-    all.push("1000 characters, accepted".to_string());
-    all.push("1001 characters, accepted but for one zero".to_string());
-    all.push("999 characters, tick answered 7".to_string());
-    all.extend(["tabs", "digits", "other"].map(|kind| format!("long rubbish, {kind}")));
-    all.extend(faults().iter().map(|fault| format!("? {fault}")));
-    all.extend(
-        ANSWERS
-            .iter()
-            .map(|(line, answer)| format!("{line:?} answered {answer:?}")),
-    );
-    all
-}
-
-/// What the text shows as a whole.
-fn of_text(text: &[u8], lines: usize) -> Vec<String> {
-    let mut labels = vec!["lines".to_string(); lines];
-    if SIZE.contains(&text.len()) {
-        labels.push("of a fit size".to_string());
-    }
-    if !text.ends_with(b"\n") {
-        labels.push("last line without its line feed".to_string());
-    }
-    if (0..=255).all(|byte| text.contains(&byte)) {
-        labels.push("every byte".to_string());
-    }
-    labels
-}
-
-/// Of the post after the line.
-fn leads_after(line: &[u8], answer: &str, leads: usize) -> usize {
-    if !line.starts_with(b"setup") || answer != "0" {
-        return leads;
-    }
-    let field = line.split(|&byte| byte == b'\t').nth(1);
-    let field = field.and_then(|field| std::str::from_utf8(field).ok());
-    let number = field.and_then(|field| field.parse().ok());
-    number.expect("an accepted setup has a number of leads")
-}
-
-impl Exchange<'_> {
-    /// A kind of `BETWEEN`, or of what changes the post.
-    fn kind(&self) -> &'static str {
-        let number = self.answer.split('\t').next();
-        match (self.line.split(|&byte| byte == b'\t').next(), number) {
-            (Some(b"setup"), Some("0")) => "setup answered 0",
-            (Some(b"setup"), Some("1")) => "setup answered 1",
-            (Some(b"setup"), Some("2")) => "setup answered 2",
-            (Some(b"setup"), Some("3")) => "setup answered 3",
-            (Some(b"setup"), Some("4")) => "setup answered 4",
-            (Some(b"setup"), Some("?")) => "setup answered ?",
-            (Some(b"tick"), Some("0")) => "tick answered 0",
-            (Some(b"tick"), Some("7")) => "tick answered 7",
-            (Some(b"tick"), Some("9")) => "tick answered 9",
-            (Some(b"tick"), Some("?")) => "tick answered ?",
-            (_, Some("?")) => "other line",
-            _ => panic!("document 01 has no such answer: {}", self.answer),
-        }
-    }
-
-    fn after(&self) -> Before {
-        let kind = self.kind();
-        match kind {
-            "tick answered 0" => Before {
-                leads: self.leads,
-                shown: self.shown(),
-                between: Vec::new(),
-            },
-            _ => Before {
-                leads: self.leads,
-                shown: self.before.shown.clone(),
-                between: [&self.before.between[..], &[kind]].concat(),
-            },
-        }
-    }
-
-    /// What a tick that is carried out shows.
-    fn shown(&self) -> Vec<u8> {
-        self.answer
-            .strip_prefix("0\t")
-            .and_then(bytes_of)
-            .unwrap_or_default()
-    }
-
-    /// What a tick gets, if it is understood.
-    fn input(&self) -> Option<Vec<u8>> {
-        let hex = self.line.strip_prefix(b"tick\t")?;
-        std::str::from_utf8(hex).ok().and_then(bytes_of)
-    }
-
-    fn labels(&self) -> Vec<String> {
-        let kind = self.kind();
-        let mut labels = vec![kind.to_string()];
-        labels.extend(self.of_lengths(kind));
-        for (line, answer) in ANSWERS {
-            let right = match answer.strip_suffix('\t') {
-                Some(_) => self.answer.starts_with(answer),
-                None => self.answer == *answer,
-            };
-            if self.line == line.as_bytes() && right && self.before.leads > 0 {
-                labels.push(format!("{line:?} answered {answer:?}"));
+        self.count(true, "lines", "");
+        self.count(true, &kind, "");
+        self.count_length(line, &kind);
+        self.count_known(line, answer);
+        match (fields[0], number) {
+            (b"setup", "0") => self.leads = ascii(fields[1]).parse().expect("leads"),
+            (b"tick", "0") => return self.count_tick(ascii(fields[1]), &answer["0\t".len()..]),
+            (b"tick", "?") if self.leads == 0 && understood(line) => {
+                let last = self.between.last().cloned().unwrap_or_default();
+                let is_setup = last.starts_with("setup");
+                self.count(is_setup, "tick before a post, after #", last);
+                self.count(!is_setup, "? before any setup", "");
             }
-        }
-        match kind {
-            "tick answered 0" => labels.extend(self.of_tick()),
-            "tick answered 7" | "tick answered 9" => labels.extend(self.of_refusal(kind)),
-            _ if self.answer == "?" && !understood(self.line) => {
-                let faults = faults_of(self.line);
-                labels.extend(faults.iter().map(|fault| format!("? {fault}")));
-            }
-            "tick answered ?" => labels.extend(self.of_tick_before_a_post()),
+            (b"tick", "?") => {}
+            (b"tick", _) => self.count_refused_tick(&bytes_of(ascii(fields[1])), number),
             _ => {}
         }
-        labels
+        self.between.push(kind);
     }
 
-    fn of_lengths(&self, kind: &str) -> Vec<String> {
-        let length = self.line.len();
-        let mut labels = Vec::new();
-        if long::LENGTHS.contains(&length) || length == long::LONGEST {
-            labels.push(format!("{length} characters"));
-        }
-        match (length, kind) {
-            (999, "tick answered 7") => labels.push(format!("999 characters, {kind}")),
-            (1_000, "setup answered 0") => labels.push("1000 characters, accepted".to_string()),
-            (1_001, "setup answered ?") if understood(&self.without_a_zero()) => {
-                labels.push("1001 characters, accepted but for one zero".to_string());
-            }
-            (1_001.., "other line") => {
-                labels.push(format!("long rubbish, {}", kind_of_rubbish(self.line)));
-            }
-            _ => {}
-        }
-        labels
-    }
-
-    /// A setup without the first character of its first number.
-    fn without_a_zero(&self) -> Vec<u8> {
-        let mut line = self.line.to_vec();
-        line.remove("setup\t".len());
-        line
-    }
-
-    /// Understood, and yet no tick.
-    fn of_tick_before_a_post(&self) -> Vec<String> {
-        match self.before.between.last() {
-            Some(kind) if BETWEEN[..5].contains(kind) => {
-                vec![format!("tick before a post, after {kind}")]
-            }
-            _ => vec!["? before any setup".to_string()],
+    /// Before a setup every tick is answered with `?`.
+    fn count_known(&mut self, line: &[u8], answer: &str) {
+        let is_same = |(_, known, _): &&Known| known == line && self.leads > 0;
+        let known: Vec<Known> = self.known.iter().filter(is_same).cloned().collect();
+        for (name, _, expected) in known {
+            let is_right = answer.split_inclusive('\t').next() == Some(expected);
+            self.count(is_right, &name, "");
+            self.count(!is_right, "#: otherwise", name);
         }
     }
 
-    fn of_tick(&self) -> Vec<String> {
-        let shown = self.shown();
+    fn count_length(&mut self, line: &[u8], kind: &str) {
+        let length = line.len();
+        self.count(long::LENGTHS.contains(&length), "# characters", length);
+        let tabs = line.iter().all(|&byte| byte == b'\t');
+        let digits = line.iter().all(u8::is_ascii_digit);
+        let is_rubbish = length > LONGEST_LINE && kind == "other line";
+        self.count(is_rubbish && tabs, "long rubbish, tabs", "");
+        self.count(is_rubbish && digits, "long rubbish, digits", "");
+        self.count(is_rubbish && !tabs && !digits, "long rubbish, other", "");
+    }
+
+    fn count_tick(&mut self, hex: &str, shown: &str) {
+        let shown = bytes_of(shown);
         let (leads, _) = shown.as_chunks::<OUTPUT_BYTES>();
-        let (before, _) = self.before.shown.as_chunks::<OUTPUT_BYTES>();
-        let mut labels = vec![format!("leads {}", leads.len())];
-        for [phase, reason, command, ..] in leads {
-            labels.push(format!("phase {phase}"));
-            if *reason > 0 {
-                labels.push(format!("reason {reason}"));
-            }
-            if *command > 0 {
-                labels.push(format!("command above 0 in phase {phase}"));
-            }
+        for lead in leads {
+            let (phase, reason) = (lead[PHASE], lead[REASON]);
+            self.count(true, "phase #", phase);
+            self.count(reason != REASON_NONE, "reason #", reason);
+            self.count(lead[COMMAND] > 0, "command above 0 in phase #", phase);
         }
-        let commands = |leads: &[[u8; OUTPUT_BYTES]]| -> Vec<u8> {
-            let in_6 = leads.iter().filter(|lead| lead[0] == 6 && lead[2] > 0);
-            in_6.map(|lead| lead[2]).collect()
-        };
-        let (old, new) = (commands(before), commands(leads));
-        if !new.is_empty() {
-            labels.push(format!("charging at once: {}", new.len()));
-        }
-        if new.iter().any(|command| *command != new[0]) {
-            labels.push("two commands apart in phase 6".to_string());
-        }
-        labels.extend(self.of_two_ticks(&old, &new));
-        labels.extend(self.of_input());
-        labels
+        let length = hex.len() / 2;
+        let whole = input_bytes(self.leads);
+        self.count(true, "leads #", leads.len());
+        self.count(length == 0, "# leads, no input", leads.len());
+        self.count(length == whole, "# leads, whole input", leads.len());
+        let is_short = 0 < length && length < whole;
+        self.count(is_short, "# leads, short input", leads.len());
+        let capital = hex.contains(|digit: char| digit.is_ascii_uppercase());
+        let small = hex.contains(|digit: char| digit.is_ascii_lowercase());
+        self.count(capital && small, "letters: both", "");
+        self.count(capital && !small, "letters: capital", "");
+        self.count(!capital && small, "letters: small", "");
+        self.count_commands(&charging(&self.shown), &charging(&shown));
+        self.shown = shown;
     }
 
-    /// The commands of the leads in 6, in this tick and in the one before.
-    fn of_two_ticks(&self, old: &[u8], new: &[u8]) -> Vec<String> {
-        let mut labels = Vec::new();
-        let same_post = !self.before.between.contains(&"setup answered 0");
-        let pairs = || old.iter().zip(new);
-        if same_post && !old.is_empty() && old.len() == new.len() {
-            for kind in &self.before.between {
-                labels.push(format!("charging goes on after {kind}"));
-            }
-            if pairs().any(|(old, new)| new < old) && pairs().any(|(old, new)| new > old) {
-                labels.push("one command falls in phase 6, another rises".to_string());
-            }
+    /// Those in phase 6, in the tick before and in this one.
+    fn count_commands(&mut self, old: &[u8], new: &[u8]) {
+        let between = std::mem::take(&mut self.between);
+        let is_other_post = between.iter().any(|kind| kind == "setup answered 0");
+        let goes_on = !is_other_post && !old.is_empty() && old.len() == new.len();
+        for kind in between {
+            self.count(goes_on, "charging goes on after #", kind);
         }
-        if !same_post && !old.is_empty() {
-            labels.push("setup throws away a lead that charges".to_string());
-        }
-        labels
+        let falls = old.iter().zip(new).any(|(old, new)| new < old);
+        let rises = old.iter().zip(new).any(|(old, new)| new > old);
+        let is_thrown = is_other_post && !old.is_empty();
+        self.count(goes_on && falls && rises, FALLS_AND_RISES, "");
+        self.count(is_thrown, "setup throws away a lead that charges", "");
+        let is_apart = new.iter().any(|command| *command != new[0]);
+        self.count(is_apart, "two commands apart in phase 6", "");
+        self.count(!new.is_empty(), "charging at once: #", new.len());
     }
 
-    fn of_input(&self) -> Vec<String> {
-        let input = self.input().expect("a tick that is carried out has bytes");
-        let size = match input.len() {
-            0 => "no",
-            length if length == input_bytes(self.leads) => "whole",
-            _ => "short",
-        };
-        let mut labels = vec![format!("{} leads, {size} input", self.leads)];
-        let hex = &self.line[b"tick\t".len()..];
-        let capital = hex.iter().any(u8::is_ascii_uppercase);
-        let small = hex.iter().any(u8::is_ascii_lowercase);
-        match (capital, small) {
-            (true, true) => labels.push("letters: both".to_string()),
-            (true, false) => labels.push("letters: capital".to_string()),
-            (false, true) => labels.push("letters: small".to_string()),
-            (false, false) => {}
-        }
-        labels
-    }
-
-    fn of_refusal(&self, kind: &str) -> Vec<String> {
-        let input = self.input().expect("a refused tick has bytes");
+    fn count_refused_tick(&mut self, input: &[u8], number: &str) {
         let leads = self.leads;
-        let flaws = flaws(&input);
-        let mut labels = Vec::new();
-        if kind == "tick answered 7" {
-            if input.len() == input_bytes(leads) + 1 {
-                labels.push(format!("7 for one byte too many, {leads} leads"));
-                if input.iter().all(|&byte| byte == 0) {
-                    labels.push(format!("7 for a zero byte too many, {leads} leads"));
-                }
-            }
-            if !flaws.is_empty() {
-                labels.push(format!("7 before 9, {leads} leads"));
-            }
-        } else if let [(lead, at)] = flaws[..] {
-            labels.push(format!("9 for lead {}", lead + 1));
-            labels.push(format!("9 for byte {at} of a lead"));
+        let flaws = flaws(input);
+        let is_too_long = number == REFUSED_INPUT_LENGTH.to_string();
+        let is_by_one = is_too_long && input.len() == input_bytes(leads) + 1;
+        let is_zero = is_by_one && input.iter().all(|&byte| byte == 0);
+        let is_flawed = is_too_long && !flaws.is_empty();
+        self.count(is_by_one, "7 for one byte too many, # leads", leads);
+        self.count(is_zero, "7 for a zero byte too many, # leads", leads);
+        self.count(is_flawed, "7 before 9, # leads", leads);
+        if let ([(lead, at)], false) = (&flaws[..], is_too_long) {
+            self.count(true, "9 for lead #", lead + 1);
+            self.count(true, "9 for byte # of a lead", at);
         }
-        labels
     }
 }
 
-fn kind_of_rubbish(line: &[u8]) -> &'static str {
-    if line.iter().all(|&byte| byte == b'\t') {
-        "tabs"
-    } else if line.iter().all(u8::is_ascii_digit) {
-        "digits"
-    } else {
-        "other"
-    }
+/// The commands of the leads in phase 6 that charge.
+fn charging(shown: &[u8]) -> Vec<u8> {
+    let (leads, _) = shown.as_chunks::<OUTPUT_BYTES>();
+    let in_6 = leads.iter().filter(|lead| lead[PHASE] == 6);
+    let commands = in_6.map(|lead| lead[COMMAND]);
+    commands.filter(|command| *command > 0).collect()
 }
 
-/// What refusal 9 is about: lead and place.
+/// Lead and place of every byte that is refused by itself.
 fn flaws(input: &[u8]) -> Vec<(usize, usize)> {
-    let records = input.get(ALLOWANCE_BYTES..).unwrap_or_default();
+    let rating = Post::set_up(&PLAIN).rating;
     let mut flaws = Vec::new();
-    for (lead, record) in records.chunks(INPUT_BYTES).enumerate() {
-        for (at, byte) in record.iter().take(4).enumerate() {
-            let flaw = match at {
-                0 => byte & 0x80 != 0,
-                1 => byte & 0xF8 != 0,
-                2 => *byte > 8,
-                _ => *byte != 0,
-            };
-            if flaw {
-                flaws.push((lead, at));
-            }
+    for (at, byte) in input.iter().skip(ALLOWANCE_BYTES).enumerate() {
+        let mut alone = [0; INPUT_BYTES];
+        alone[at % INPUT_BYTES] = *byte;
+        if Input::read(&alone, &rating).is_none() {
+            flaws.push((at / INPUT_BYTES, at % INPUT_BYTES));
         }
     }
     flaws
 }
 
-fn bytes_of(hex: &str) -> Option<Vec<u8>> {
-    let (pairs, rest) = hex.as_bytes().as_chunks::<2>();
-    let byte = |pair: &[u8; 2]| u8::from_str_radix(std::str::from_utf8(pair).ok()?, 16).ok();
-    rest.is_empty().then(|| pairs.iter().map(byte).collect())?
+fn ascii(bytes: &[u8]) -> &str {
+    std::str::from_utf8(bytes).expect("what is understood is ASCII")
+}
+
+fn bytes_of(hex: &str) -> Vec<u8> {
+    let pairs = (0..hex.len()).step_by(2).map(|at| &hex[at..at + 2]);
+    let byte = |pair| u8::from_str_radix(pair, 16).expect("pairs of digits");
+    pairs.map(byte).collect()
 }

@@ -1,70 +1,77 @@
-//! Lines of exact lengths, around 1,000 characters and around the sizes of
+//! Lines of exact lengths, around the most characters that a line may have and around the sizes of
 //! pieces in which a program may read.
 
-use crate::dice::Dice;
-use crate::line::{Line, SETUP};
+use second::bench::LONGEST_LINE as MOST;
+use shared::dice::Dice;
+
+use crate::line::{Line, SETUP, START};
 
 /// In characters.
-pub const LENGTHS: [usize; 14] = [
-    998, 999, 1_000, 1_001, 1_002, 4_095, 4_096, 4_097, 8_191, 8_192, 8_193, 65_535, 65_536, 65_537,
+#[rustfmt::skip]
+pub const LENGTHS: [usize; 15] = [
+    MOST - 2, MOST - 1, MOST, MOST + 1, MOST + 2, 4_095, 4_096, 4_097, 8_191, 8_192, 8_193,
+    65_535, 65_536, 65_537, 150_000,
 ];
 
-pub const LONGEST: usize = 150_000;
+/// Faults of lines that are too long, by their names.
+pub fn faults() -> Vec<(String, Line)> {
+    let faults = [
+        ("a setup", setup(MOST + 1, 0)),
+        ("a tick", tick(MOST + 1)),
+        (
+            "the first 1,000 a line",
+            filled(setup(MOST, 1), MOST + 1, b'0'),
+        ),
+        (
+            "all but 1,000 a line",
+            filled(START, START.len() + MOST, b'x'),
+        ),
+        ("after the first 1,000 a line", tailed(MOST, START)),
+        ("after the first 1,001 a line", tailed(MOST + 1, START)),
+    ];
+    let named = |(name, line)| (format!("above 1,000 characters, {name}"), line);
+    faults.map(named).to_vec()
+}
 
-/// A setup that would be accepted but for its length: zeros before one of its
-/// numbers, by the place of its field.
+/// Seven lines of this length, the first four understood but for it, and longer ones with a line at
+/// one end of what is none.
+pub fn forms(length: usize, dice: &mut Dice) -> [Line; 12] {
+    let mut rubbish = |byte: fn(u8) -> u8| (0..length).map(|_| byte(dice.byte())).collect();
+    [
+        tick(length),
+        setup(length, 0),
+        setup(length, 1),
+        setup(length, 2),
+        rubbish(|_| b'\t'),
+        rubbish(|any| b'0' + any % 10),
+        rubbish(|any| if any == b'\n' { b'\r' } else { any }),
+        tailed(length, START),
+        tailed(length, SETUP),
+        filled(START, length, b'x'),
+        filled(SETUP, length, b'x'),
+        filled(setup(MOST, 1), length.max(MOST + 1), b'0'),
+    ]
+}
+
+/// A setup with zeros before one of its numbers, by the place of its field.
 pub fn setup(length: usize, place: usize) -> Line {
-    let mut fields = ["1", "500", "125"].map(String::from);
-    let zeros = length - SETUP.len();
-    fields[place].insert_str(0, &"0".repeat(zeros));
-    format!("setup\t{}\t00000000", fields.join("\t")).into_bytes()
+    let (tab, _) = SETUP.match_indices('\t').nth(place).expect("a field");
+    let (before, after) = SETUP.split_at(tab + 1);
+    let zeros = "0".repeat(length - SETUP.len());
+    [before, &zeros, after].concat().into_bytes()
 }
 
 /// A tick of zeros. Of an even length it has a digit without its pair.
 pub fn tick(length: usize) -> Line {
-    let mut line = b"tick\t".to_vec();
-    line.resize(length, b'0');
+    filled("tick\t", length, b'0')
+}
+
+fn tailed(before: usize, tail: &str) -> Line {
+    [&filled("", before, b'x'), tail.as_bytes()].concat()
+}
+
+fn filled(head: impl Into<Line>, length: usize, byte: u8) -> Line {
+    let mut line = head.into();
+    line.resize(length, byte);
     line
-}
-
-/// Understood but for its length.
-pub fn sound(length: usize) -> Line {
-    if length % 2 == 1 {
-        tick(length)
-    } else {
-        setup(length, 0)
-    }
-}
-
-/// A setup as long as may be, and more after it.
-pub fn overrun(length: usize) -> Line {
-    let mut line = setup(1_000, 1);
-    line.resize(length, b'0');
-    line
-}
-
-/// Not a line, and at its end one that is.
-pub fn tailed(before: usize, tail: &[u8]) -> Line {
-    let mut line = vec![b'x'; before];
-    line.extend_from_slice(tail);
-    line
-}
-
-/// Not a line, and at its beginning one that is.
-pub fn headed(head: &[u8], after: usize) -> Line {
-    let mut line = head.to_vec();
-    line.resize(head.len() + after, b'x');
-    line
-}
-
-/// Neither begins nor ends like a line: tabs alone, digits, or any bytes.
-pub fn rubbish(length: usize, dice: &mut Dice) -> Line {
-    let kind = dice.below(3);
-    let byte = |_| match (kind, dice.byte()) {
-        (0, _) => b'\t',
-        (1, any) => b'0' + any % 10,
-        (_, b'\n') => b'\r',
-        (_, any) => any,
-    };
-    (0..length).map(byte).collect()
 }

@@ -1,23 +1,26 @@
 //! Posts set up and ticked: leads steered through their phases to a stop.
 
-use second::lead::{Lead, Rating};
-use second::post::ALLOWANCE_BYTES;
+use second::frames::IN_MINUTES;
+use second::lead::{Lead, REASON_NONE};
+use shared::dice::Dice;
+use shared::lead_input::{anything, build};
+use shared::numbers::{Numbers, PLAIN};
+use shared::plan::Plan;
+use shared::post::{self, Post};
+use shared::scene::{Car, Scene};
+use shared::stops::{no, takes_time, Standing};
 
-use crate::dice::Dice;
-use crate::lead_input::{anything, build};
 use crate::line::{self, Line};
-use crate::numbers::{self, Numbers, PLAIN};
-use crate::plan::Plan;
-use crate::post::Post;
-use crate::refused;
-use crate::scene::{Car, Scene};
-use crate::stops::{no, Standing, BRACKETS};
+use crate::{numbers, refused};
 
 /// Never short.
 const AMPLE: u32 = 500_000;
 
+/// More ticks than any phase but 6 lasts here.
+const PATIENCE: usize = 40;
+
 struct Session<'a> {
-    lines: &'a mut Vec<Line>,
+    lines: Vec<Line>,
     dice: &'a mut Dice,
     post: Post,
     cars: Vec<Car>,
@@ -25,262 +28,120 @@ struct Session<'a> {
 }
 
 impl Session<'_> {
-    fn begin<'a>(
-        numbers: &Numbers,
-        cars: Vec<Car>,
-        lines: &'a mut Vec<Line>,
-        dice: &'a mut Dice,
-    ) -> Session<'a> {
-        lines.push(numbers.line());
-        Session {
-            lines,
-            dice,
-            post: Post::set_up(numbers),
-            cars,
-            allowance: AMPLE,
-        }
-    }
-
-    fn phase(&self) -> u8 {
-        self.post.leads()[0].phase
-    }
-
-    /// What takes a lead to its next phase; one that has ended stays unplugged.
-    fn onward(&self, at: usize) -> Scene {
-        let lead = self.post.leads()[at];
-        if lead.phase == 0 && lead.reason != 0 {
-            Scene::empty(0)
-        } else {
-            Scene::onward(lead.phase, lead.command, &self.cars[at])
-        }
+    /// What takes every lead to its next phase; one that has ended stays unplugged.
+    fn scenes(&self) -> Vec<Scene> {
+        let onward = |(lead, car): (&Lead, &Car)| match lead.phase {
+            0 if lead.reason != REASON_NONE => Scene::empty(0),
+            phase => Scene::onward(phase, lead.command, car),
+        };
+        let leads = self.post.leads();
+        leads.iter().zip(&self.cars).map(onward).collect()
     }
 
     fn tick(&mut self, scenes: &[Scene]) {
-        let mut input = self.allowance.to_le_bytes().to_vec();
-        for scene in scenes {
-            input.extend_from_slice(&scene.build().0);
-        }
+        let input = post::input(self.allowance, scenes.iter().map(Scene::build));
         self.lines.push(line::tick(&input, self.dice));
         self.post.tick(&input);
     }
 
-    fn tick_onward(&mut self) {
-        let scenes: Vec<Scene> = (0..self.cars.len()).map(|at| self.onward(at)).collect();
-        self.tick(&scenes);
+    /// Elsewhere a tick would take the leads on.
+    fn stay_in_6(&mut self) {
+        if self.post.leads()[0].phase == 6 {
+            self.tick(&self.scenes());
+        }
     }
 
-    /// The first lead to this phase. Every one but 6 ends within a few ticks.
+    /// The first lead to this phase.
     fn to(&mut self, phase: u8) {
-        for _ in 0..40 {
-            if self.phase() == phase {
-                return;
-            }
-            self.tick_onward();
+        let mut ticks = 0..PATIENCE;
+        while self.post.leads()[0].phase != phase {
+            ticks.next().expect("the phase is reached");
+            self.tick(&self.scenes());
         }
-        panic!("phase {phase} not reached");
     }
 
-    /// The scene with a no to a question.
-    fn scene_with_no(&mut self, question: u8, at: usize) -> Scene {
-        let lead = self.post.leads()[at];
-        let car = &self.cars[at];
-        let standing = Standing::new(lead.phase, lead.threshold, car, &self.post.rating);
-        let scene = match question {
-            // Time alone is to stop it.
-            19 | 28 => Scene::waiting(lead.phase, lead.command, car),
-            _ => self.onward(at),
-        };
-        no(question, scene, &standing, self.dice)
-    }
-
-    /// The one lead there is gets a no until it stops. Where it takes time,
+    /// One lead gets a no to a question until it stops, the others go on. Where it takes time,
     /// refused ticks come between, which are not to be counted.
-    fn stop(&mut self, question: u8) {
-        for _ in 0..40 {
-            if self.post.leads()[0].reason == question {
-                return;
+    fn stop(&mut self, question: u8, at: usize) {
+        let mut ticks = 0..PATIENCE;
+        while self.post.leads()[at].reason != question {
+            ticks.next().expect("the question is a stop");
+            let lead = self.post.leads()[at];
+            let car = &self.cars[at];
+            let standing = Standing::new(lead.phase, lead.threshold, car, &self.post.rating);
+            let mut scenes = self.scenes();
+            if takes_time(question) {
+                scenes[at] = Scene::waiting(lead.phase, lead.command, car);
+                let flaw = self.dice.pick(&refused::flaws());
+                self.lines.push(refused::flawed(at, flaw, self.dice));
             }
-            let scene = self.scene_with_no(question, 0);
-            self.tick(&[scene]);
-            if matches!(question, 19 | 28) {
-                let flaw = self.dice.pick(&refused::FLAWS);
-                self.lines.push(refused::flawed(0, flaw, self.dice));
-            }
+            scenes[at] = no(question, scenes[at], &standing, self.dice);
+            self.tick(&scenes);
         }
-        panic!("no stop for question {question}");
-    }
-
-    fn refused(&mut self, no_lines: &[Line]) {
-        let leads = self.cars.len();
-        self.lines.push(refused::any(leads, no_lines, self.dice));
     }
 }
 
-fn car(maximum_voltage: u16, request: u8, time: (u8, u8)) -> Car {
-    Car {
-        maximum_voltage,
-        target_voltage: maximum_voltage - 10,
-        request,
-        time,
-    }
-}
-
-/// One lead, stopped by each question in turn in some phase of its bracket. In 7
-/// and 8 no reason is recorded.
-pub fn every_stop(no_lines: &[Line], lines: &mut Vec<Line>, dice: &mut Dice) {
-    for (question, first, last) in BRACKETS {
-        let phase = match question {
-            // The shortest wait there is.
-            28 => 2,
-            _ => first + dice.below(u32::from(last.min(6) - first) + 1) as u8,
-        };
-        let times: &[(u8, u8)] = match question {
-            29 => &[(0, 0), (0, 9)],
-            _ => &[(1, 200), (60, 0), (254, 255), (0xFF, 1), (0xFF, 255)],
-        };
-        let numbers = Numbers {
-            volts: dice.pick(&[400, 450, 500]),
-            amperes: dice.pick(&[20, 125, 200]),
-            resistance: dice.pick(&[0.0f32, -0.0, 0.333]).to_bits(),
-            ..PLAIN
-        };
-        let maximum_voltage = dice.pick(&[60, 350, 400, 410]);
-        let cars = vec![car(maximum_voltage, dice.byte(), dice.pick(times))];
-        let mut session = Session::begin(&numbers, cars, lines, dice);
-        session.to(phase);
-        session.refused(no_lines);
-        session.stop(question);
-        session.to(0);
-    }
-}
-
-/// A lead that charges, and between its ticks each kind of line that is to leave
-/// the post as it is, setups of more leads and of fewer among them.
-pub fn kept(lines: &mut Vec<Line>, dice: &mut Dice) {
-    let numbers = Numbers { leads: 2, ..PLAIN };
-    let cars = vec![car(400, 125, (60, 0)), car(300, 9, (0xFF, 30))];
-    let mut session = Session::begin(&numbers, cars, lines, dice);
-    session.to(6);
-    for (number, leads) in [(1, 2), (2, 1), (3, 4), (4, 3), (4, 2)] {
-        let setup = numbers::refused(number, leads, session.dice);
-        session.lines.push(setup.line());
-        session.tick_onward();
-    }
-    let longest = refused::longest(0, session.dice);
-    let surplus = refused::surplus(2, 1, 0, session.dice);
-    let flawed = refused::flawed(1, (3, 1), session.dice);
-    let not_understood = [
-        "setup\t1\t500\t125\t0000000",
-        "setup\t3\t65536\t125\t00000000",
-        "setup\t3\t500\t125\t00000000\r",
-        "tick\t0",
-        "tick",
-        "",
-    ];
-    let others = not_understood.map(Line::from);
-    for line in [longest, surplus, flawed].into_iter().chain(others) {
-        session.lines.push(line);
-        session.tick_onward();
-    }
-    let stop = session.scene_with_no(24, 0);
-    session.tick(&[stop, session.onward(1)]);
-    for _ in 0..3 {
-        session.tick_onward();
-    }
-    // An accepted one throws the leads' states away.
-    session.lines.push(numbers.line());
-    session.post = Post::set_up(&numbers);
-    session.tick(&[Scene::empty(0); 2]);
-}
-
-/// All leads start at once, charge while the allowance is short, and are stopped
-/// one after another. The last lead rises with the watts that become free.
-pub fn sharing(leads: usize, no_lines: &[Line], lines: &mut Vec<Line>, dice: &mut Dice) {
-    const STOPS: [[u8; 4]; 3] = [[24, 26, 0, 0], [20, 14, 26, 0], [25, 11, 17, 23]];
-    let stops = STOPS[leads - 2];
-    let numbers = Numbers {
-        leads: leads as u32,
-        amperes: 60,
-        ..PLAIN
+/// A lead for each question, or for none. All start at once, and when the first has reached this
+/// phase, lines come that change nothing; then each is stopped by its question. In 6 ticks come
+/// between, and the power becomes short, so that what one lead gives up makes another rise.
+pub fn stopped(phase: u8, questions: &[u8], unchanging: Vec<Line>, dice: &mut Dice) -> Vec<Line> {
+    let leads = questions.len();
+    let amperes = dice.pick(&[60, 125, 200]);
+    let ohms = dice.pick(&[0.0f32, -0.0, 0.333]).to_bits();
+    let numbers = Numbers::of([leads as u32, PLAIN.volts, amperes, ohms]);
+    let time = (IN_MINUTES, if questions.contains(&29) { 0 } else { 10 });
+    let car = |(volts, request)| Car::new(volts, volts - 10, request, time);
+    let cars = [(400, 60), (200, 60), (500, 9), (60, 255)].map(car);
+    let mut session = Session {
+        lines: vec![numbers::line(&numbers)],
+        dice,
+        post: Post::set_up(&numbers),
+        cars: cars[..leads].to_vec(),
+        allowance: AMPLE,
     };
-    let cars = [
-        car(400, 60, (60, 0)),
-        car(200, 60, (30, 0)),
-        car(500, 9, (0xFF, 10)),
-        car(60, 255, (0xFF, 1)),
-    ];
-    let mut session = Session::begin(&numbers, cars[..leads].to_vec(), lines, dice);
-    session.to(6);
-    session.allowance = 2_000 * leads as u32;
-    for _ in 0..3 {
-        session.tick_onward();
+    session.to(phase);
+    for line in unchanging {
+        session.lines.push(line);
+        session.stay_in_6();
     }
-    session.refused(no_lines);
-    session.allowance = 1_501 * leads as u32;
-    for (stopped, &question) in stops[..leads].iter().enumerate() {
-        let scenes: Vec<Scene> = (0..leads)
-            .map(|at| match at {
-                _ if at == stopped => session.scene_with_no(question, at),
-                _ => session.onward(at),
-            })
-            .collect();
-        session.tick(&scenes);
+    for allowance in [2_000, 1_501] {
+        session.allowance = allowance * numbers.leads;
+        session.stay_in_6();
     }
-    for _ in 0..5 {
-        session.tick_onward();
+    for (at, &question) in questions.iter().enumerate() {
+        session.stop(question, at);
     }
+    session.to(0);
+    session.lines
 }
 
-/// Leads with plans of their own, with other frames and stale values around what
-/// they say; now and then any bytes at all, or a line that changes nothing.
-pub fn roaming(
-    leads: u32,
-    ticks: usize,
-    no_lines: &[Line],
-    lines: &mut Vec<Line>,
-    dice: &mut Dice,
-) {
+/// Leads with plans of their own, with other frames and stale values around what they say; now and
+/// then any bytes at all, or a line that changes nothing.
+pub fn roaming(leads: u32, ticks: usize, no_lines: &[Line], dice: &mut Dice) -> Vec<Line> {
     let numbers = numbers::good(leads, dice);
-    lines.push(numbers.line());
+    let mut lines = vec![numbers::line(&numbers)];
     let mut post = Post::set_up(&numbers);
     let eager = dice.one_in(2);
-    let mut plans: Vec<Plan> = (0..leads)
-        .map(|_| Plan::draw(&post.rating, eager, dice))
-        .collect();
+    let plans = (0..leads).map(|_| Plan::draw(post.rating, eager, dice));
+    let mut plans: Vec<Plan> = plans.collect();
     for _ in 0..ticks {
-        let mut input = draw_allowance(dice).to_vec();
+        let any = dice.next();
+        let allowance = dice.pick(&[AMPLE, any % 5_000, any]);
+        let mut inputs = Vec::new();
         for (lead, plan) in post.leads().iter().zip(&mut plans) {
-            if lead.phase == 0 && lead.age == 0 {
-                *plan = Plan::draw(&post.rating, eager, dice);
-            }
-            input.extend_from_slice(&roaming_input(lead, plan, &post.rating, dice));
+            let scene = plan.scene(lead, dice);
+            inputs.push(match dice.below(60) {
+                0 => anything(dice),
+                1..15 => build(scene, lead.phase, dice),
+                _ => scene.build(),
+            });
         }
         if dice.one_in(8) {
             lines.push(refused::any(leads as usize, no_lines, dice));
         }
+        let input = post::input(allowance, inputs);
         lines.push(line::tick(&input, dice));
         post.tick(&input);
     }
-}
-
-fn draw_allowance(dice: &mut Dice) -> [u8; ALLOWANCE_BYTES] {
-    let watts = match dice.below(3) {
-        0 => AMPLE,
-        1 => dice.below(5_000),
-        _ => dice.next(),
-    };
-    watts.to_le_bytes()
-}
-
-fn roaming_input(lead: &Lead, plan: &mut Plan, rating: &Rating, dice: &mut Dice) -> Vec<u8> {
-    let input = if dice.one_in(60) {
-        anything(dice)
-    } else {
-        let scene = plan.scene(lead, rating, dice);
-        match dice.below(4) {
-            0 => build(scene, lead.phase, dice),
-            _ => scene.build(),
-        }
-    };
-    input.0.to_vec()
+    lines
 }

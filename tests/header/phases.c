@@ -26,8 +26,7 @@
 #define LOCK POST_SWITCH_LOCK
 
 const struct row way[PHASES] = {
-    {POST_PHASE_IDLE, {{0, METER, OPEN}, 20, 8, 0, TALKS},
-     0, 0, 0, 0, 0, 0, 0},
+    {POST_PHASE_IDLE, {{0, METER, OPEN}, 20, 8, 0, TALKS}, 0, 0, 0, 0, 0, 0, 0},
     {POST_PHASE_HANDSHAKE, {{STARTED, METER, OPEN}, 20, 8, 0, SILENT},
      SEND + D1, POST_FLAG_STOP_CONTROL, 0, 0, 18, 8, 0},
     {POST_PHASE_LOCKING, {{PERMITTED, METER, OPEN}, 20, 8, 0, TALKS},
@@ -46,8 +45,7 @@ const struct row way[PHASES] = {
      SEND + D1 + D2 + LOCK, WAITING, 0, 400, 394, 4, 0},
     {POST_PHASE_FINAL_DISCHARGE, {{LOCKED, METER, OPEN}, 395, 4, 0, TALKS},
      SEND + LOCK, WAITING, 0, 400, 394, 4, 0},
-    {POST_PHASE_ENDED, {{PLUGGED, METER, OPEN}, 8, 4, 0, TALKS},
-     0, 0, 0, 0, 0, 0, 0},
+    {POST_PHASE_ENDED, {{PLUGGED, METER, OPEN}, 8, 4, 0, TALKS}, 0, 0, 0, 0, 0, 0, 0},
 };
 
 static void check_output(const struct row *row, uint8_t reason) {
@@ -113,15 +111,13 @@ static void try_minutes(void) {
 static void try_power_limit(void) {
     static const struct {
         uint32_t watts, amperes;
-    } limits[] = {{800, 2}, {799, 1}, {399, 0}, {0x01000000, 2}};
-    uint32_t usual = power_limit;
+    } limits[] = {{800, 2}, {799, 1}, {399, 0}, {0x01000000, 2}, {USUAL_LIMIT, 2}};
     for (unsigned i = 0; i < sizeof limits / sizeof *limits; i++) {
         about("power limit", limits[i].watts);
         power_limit = limits[i].watts;
         reach(POST_PHASE_CHARGING);
         CHECK(output_at(POST_OUTPUT_COMMAND, 1), limits[i].amperes);
     }
-    power_limit = usual;
 }
 
 void try_phases(void) {

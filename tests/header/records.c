@@ -1,5 +1,7 @@
-/* Every place of the state, and the frame records of the input. */
+/* Numbers in bytes, every place of the state, and the frame records of the input. */
 #include "trial.h"
+
+#include <string.h>
 
 #define STATUS_KEPT (UNUSED_STATUS + POST_STATUS_ENABLED)
 #define ALL_SEEN    (POST_SEEN_H100 + POST_SEEN_H101 + POST_SEEN_H102)
@@ -26,20 +28,70 @@ static const struct place {
     {NAMED(POST_LEAD_AGE), 4, {5, 0}},
 };
 
+/* The places follow each other up to the spare bytes. */
 static void check_places(unsigned column) {
+    size_t end = 0;
     about("column", column);
-    for (unsigned i = 0; i < sizeof places / sizeof *places; i++)
-        CHECK_NAMED(places[i].name, state_at(places[i].place, places[i].length),
-                    places[i].values[column]);
+    for (const struct place *at = places; at < places + sizeof places / sizeof *places; at++) {
+        CHECK_NAMED(at->name, at->place, end);
+        CHECK_NAMED(at->name, state_at(at->place, at->length), at->values[column]);
+        end += at->length;
+    }
+    CHECK(end, POST_LEAD_SPARE);
+}
+
+/* The header's own functions, at an odd address: what stands beside the number is left alone. */
+static void try_helpers(void) {
+    static const struct {
+        uint32_t bits;
+        float number;
+    } floats[] = {{0, 0}, {0x80000000, -0.0F}, {0x3D800000, 0.0625F}, {0x4B7FFFFE, 16777214}};
+    uint8_t bytes[6];
+    memset(bytes, 1, sizeof bytes);
+    for (unsigned i = 0; i <= 0xFFFF; i++) {
+        about("number", i);
+        post_put_u16(bytes + 1, (uint16_t)i);
+        CHECK(bytes[1] + 256 * bytes[2], i);
+        CHECK(post_get_u16(bytes + 1), i);
+        CHECK(bytes[0] + bytes[3], 2);
+    }
+    for (unsigned i = 0; i < sizeof floats / sizeof *floats; i++) {
+        about("float", i);
+        post_put_float(bytes + 1, floats[i].number);
+        CHECK(post_get_u16(bytes + 1) + 65536UL * post_get_u16(bytes + 3), floats[i].bits);
+        CHECK(post_get_u32(bytes + 1), floats[i].bits);
+        CHECK(post_float_bits(post_get_float(bytes + 1)), floats[i].bits);
+        CHECK(bytes[0] + bytes[5], 2);
+    }
 }
 
 static void try_head(void) {
     about("head", 0);
     set_up();
-    CHECK(get_number(state + POST_HEAD_LEADS, 1), LEADS);
-    CHECK(get_number(state + POST_HEAD_RATED_AMPERES, 1), RATED_AMPERES);
-    CHECK(get_number(state + POST_HEAD_RATED_VOLTS, 2), RATED_VOLTS);
-    CHECK(get_number(state + POST_HEAD_CABLE_RESISTANCE, 4), CABLE_RESISTANCE);
+    CHECK(state[POST_HEAD_LEADS], LEADS);
+    CHECK(state[POST_HEAD_RATED_AMPERES], RATED_AMPERES);
+    CHECK(post_get_u16(state + POST_HEAD_RATED_VOLTS), RATED_VOLTS);
+    CHECK(post_get_u32(state + POST_HEAD_CABLE_RESISTANCE), CABLE_RESISTANCE);
+}
+
+/* A tick without H'102 in a phase, and the silence before and after it. */
+static void try_silence(void) {
+    static const struct {
+        uint8_t phase, before, after;
+    } rows[] = {
+        {POST_PHASE_IDLE, 7, 7},       {POST_PHASE_HANDSHAKE, 0, 1},
+        {POST_PHASE_WELD_CHECK, 7, 8}, {POST_PHASE_HANDSHAKE, 255, 255},
+        {POST_PHASE_ENDED, 7, 7},      {POST_PHASE_FINAL_DISCHARGE, 7, 7},
+    };
+    for (unsigned i = 0; i < sizeof rows / sizeof *rows; i++) {
+        struct scene scene = way[rows[i].phase].scene;
+        scene.frames = 0;
+        about("silence in phase", rows[i].phase);
+        reach(rows[i].phase);
+        state[POST_STATE_LEAD(LEAD) + POST_LEAD_SILENCE] = rows[i].before;
+        CHECK(tick_scene(&scene), POST_DONE);
+        CHECK(state_at(POST_LEAD_SILENCE, 1), rows[i].after);
+    }
 }
 
 static void try_places(void) {
@@ -69,23 +121,12 @@ static uint32_t seen_after(uint16_t identifier, uint8_t length, uint8_t count) {
     return state_at(POST_LEAD_SEEN, 1);
 }
 
-static uint8_t seen_bit(unsigned identifier) {
-    switch (identifier) {
-    case POST_H100:
-        return POST_SEEN_H100;
-    case POST_H101:
-        return POST_SEEN_H101;
-    case POST_H102:
-        return POST_SEEN_H102;
-    default:
-        return 0;
-    }
-}
-
 static void try_frames(void) {
     for (unsigned i = 0; i <= 0xFFFF; i++) {
+        unsigned seen = i == POST_H100 ? POST_SEEN_H100 : i == POST_H101 ? POST_SEEN_H101 : 0;
         about("identifier", i);
-        CHECK(seen_after((uint16_t)i, POST_FRAME_DATA_LENGTH, POST_FRAME_RECORDS), seen_bit(i));
+        CHECK(seen_after((uint16_t)i, POST_FRAME_DATA_LENGTH, POST_FRAME_RECORDS),
+              i == POST_H102 ? POST_SEEN_H102 : seen);
     }
     for (unsigned i = 0; i < 256; i++) {
         about("length", i);
@@ -96,22 +137,24 @@ static void try_frames(void) {
     CHECK(seen_after(POST_H102, POST_FRAME_DATA_LENGTH, POST_FRAME_RECORDS - 1), 0);
 }
 
-#define CHECK_IDENTIFIER(digits) CHECK(POST_H##digits, 0x##digits)
-
 /*
  * What no answer of the library can show: it never names the frames that it sends, and it takes
- * volts and amperes only together. Document 01's numbers and its order stand for it here.
+ * volts and amperes only together. Document 01's numbers and its order stand for it here. The
+ * edition of the state is that of the places above: whoever changes these raises it.
  */
 static void try_unseen(void) {
     about("document", 1);
-    CHECK_IDENTIFIER(108);
-    CHECK_IDENTIFIER(109);
+    CHECK(POST_H108, 0x108);
+    CHECK(POST_H109, 0x109);
     CHECK(POST_PRESENT_VOLTS < POST_PRESENT_AMPERES, 1);
+    CHECK(POST_STATE_VERSION, 1);
 }
 
 void try_records(void) {
+    try_helpers();
     try_head();
     try_places();
+    try_silence();
     try_frames();
     try_unseen();
 }

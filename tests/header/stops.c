@@ -5,12 +5,15 @@
 
 #define URGENT   .from = POST_PHASE_CHARGING, .into = POST_PHASE_FINAL_DISCHARGE
 #define ORDINARY .from = POST_PHASE_CHARGING, .into = POST_PHASE_RAMP_DOWN
+#define EARLY    .into = POST_PHASE_WELD_CHECK
 #define NO_STOP  .from = POST_PHASE_CHARGING, .into = POST_PHASE_CHARGING
 
 /*
  * Something in the scene of a phase is different: bits of a byte, or a figure that is given. Then
  * `waits` ticks go by without a stop, and the next one stops the lead, with these flags of H'109.
  */
+#define STOP(name, kind, flags_shown, ...)                                                         \
+    {.reason = POST_REASON_##name, kind, .flags = (flags_shown), __VA_ARGS__}
 static const struct stop {
     uint8_t reason, from, into, flags;
     uint8_t flip[BIT_BYTES];
@@ -19,47 +22,30 @@ static const struct stop {
     uint8_t silent;
     unsigned waits;
 } stops[] = {
-    {.reason = POST_REASON_EMERGENCY_BUTTON, URGENT, .flags = WAITING,
-     .flip[CONTACTS] = POST_CONTACT_EMERGENCY_BUTTON},
-    {.reason = POST_REASON_UNPLUGGED, URGENT, .flags = WAITING,
-     .flip[CONTACTS] = POST_CONTACT_PLUG},
-    {.reason = POST_REASON_GROUND_FAULT, URGENT, .flags = BROKEN,
-     .flip[CONTACTS] = POST_CONTACT_GROUND_FAULT},
-    {.reason = POST_REASON_PERMISSION_OPEN, URGENT, .flags = WAITING,
-     .flip[CONTACTS] = POST_CONTACT_PERMISSION},
-    {.reason = POST_REASON_BAD_READING, URGENT, .flags = BROKEN,
-     .flip[PRESENT] = POST_PRESENT_VOLTS},
-    {.reason = POST_REASON_BAD_READING, URGENT, .flags = BROKEN,
-     .flip[PRESENT] = POST_PRESENT_AMPERES},
-    {.reason = POST_REASON_OVERVOLTAGE, URGENT, .flags = BROKEN, .volts = 416},
-    {.reason = POST_REASON_OVERCURRENT, URGENT, .flags = BROKEN, .amperes = 131},
-    {.reason = POST_REASON_UNLOCKED, URGENT,
-     .flags = POST_FLAG_STOP_CONTROL + POST_FLAG_MALFUNCTION, .flip[CONTACTS] = POST_CONTACT_LOCK},
-    {.reason = POST_REASON_CAR_SILENT, ORDINARY, .flags = RAMPING + POST_FLAG_SYSTEM_MALFUNCTION,
-     .silent = 1, .waits = 9},
-    {.reason = POST_REASON_CAR_FAULT, ORDINARY, .flags = RAMPING, .flip[FAULTS] = POST_FAULTS_MASK},
-    {.reason = POST_REASON_CAR_FAULT, ORDINARY, .flags = RAMPING,
-     .flip[STATUS] = POST_STATUS_SYSTEM_FAULT},
-    {.reason = POST_REASON_INCOMPATIBLE_VOLTAGE, ORDINARY,
-     .flags = RAMPING + POST_FLAG_INCOMPATIBLE, .target = 401},
-    {.reason = POST_REASON_NOT_IN_PARK, ORDINARY, .flags = RAMPING,
-     .flip[STATUS] = POST_STATUS_NOT_IN_PARK},
-    {.reason = POST_REASON_NOT_ENABLED, ORDINARY, .flags = RAMPING,
-     .flip[STATUS] = POST_STATUS_ENABLED},
-    {.reason = POST_REASON_STOP_REQUEST, ORDINARY, .flags = RAMPING,
-     .flip[STATUS] = POST_STATUS_STOP_REQUEST},
-    {.reason = POST_REASON_CONTACTOR_OPEN, ORDINARY, .flags = RAMPING,
-     .flip[STATUS] = POST_STATUS_CONTACTOR_OPEN},
-    {.reason = POST_REASON_STOP_BUTTON, ORDINARY, .flags = RAMPING,
-     .flip[CONTACTS] = POST_CONTACT_STOP_BUTTON},
-    {.reason = POST_REASON_LOW_INSULATION, .from = POST_PHASE_INSULATION_TEST,
-     .into = POST_PHASE_WELD_CHECK, .flags = BROKEN, .flip[PRESENT] = POST_PRESENT_INSULATION,
-     .ohms = 39999},
-    {.reason = POST_REASON_PHASE_TIMEOUT, .from = POST_PHASE_LOCKING, .into = POST_PHASE_WELD_CHECK,
-     .flags = POST_FLAG_STOP_CONTROL + POST_FLAG_SYSTEM_MALFUNCTION, .waits = 20},
-    {.reason = POST_REASON_CHARGING_TIME_OVER, ORDINARY, .flags = RAMPING, .waits = 1200},
-    {.reason = POST_REASON_NONE, NO_STOP, .flags = CHARGING,
-     .flip[CONTACTS] = POST_CONTACT_START_BUTTON},
+    STOP(EMERGENCY_BUTTON, URGENT, WAITING, .flip[CONTACTS] = POST_CONTACT_EMERGENCY_BUTTON),
+    STOP(UNPLUGGED, URGENT, WAITING, .flip[CONTACTS] = POST_CONTACT_PLUG),
+    STOP(GROUND_FAULT, URGENT, BROKEN, .flip[CONTACTS] = POST_CONTACT_GROUND_FAULT),
+    STOP(PERMISSION_OPEN, URGENT, WAITING, .flip[CONTACTS] = POST_CONTACT_PERMISSION),
+    STOP(BAD_READING, URGENT, BROKEN, .flip[PRESENT] = POST_PRESENT_VOLTS),
+    STOP(BAD_READING, URGENT, BROKEN, .flip[PRESENT] = POST_PRESENT_AMPERES),
+    STOP(OVERVOLTAGE, URGENT, BROKEN, .volts = 416),
+    STOP(OVERCURRENT, URGENT, BROKEN, .amperes = 131),
+    STOP(UNLOCKED, URGENT, BROKEN - POST_FLAG_LOCKED, .flip[CONTACTS] = POST_CONTACT_LOCK),
+    STOP(CAR_SILENT, ORDINARY, RAMPING + POST_FLAG_SYSTEM_MALFUNCTION, .silent = 1, .waits = 9),
+    STOP(CAR_FAULT, ORDINARY, RAMPING, .flip[FAULTS] = POST_FAULTS_MASK),
+    STOP(CAR_FAULT, ORDINARY, RAMPING, .flip[STATUS] = POST_STATUS_SYSTEM_FAULT),
+    STOP(INCOMPATIBLE_VOLTAGE, ORDINARY, RAMPING + POST_FLAG_INCOMPATIBLE, .target = 401),
+    STOP(NOT_IN_PARK, ORDINARY, RAMPING, .flip[STATUS] = POST_STATUS_NOT_IN_PARK),
+    STOP(NOT_ENABLED, ORDINARY, RAMPING, .flip[STATUS] = POST_STATUS_ENABLED),
+    STOP(STOP_REQUEST, ORDINARY, RAMPING, .flip[STATUS] = POST_STATUS_STOP_REQUEST),
+    STOP(CONTACTOR_OPEN, ORDINARY, RAMPING, .flip[STATUS] = POST_STATUS_CONTACTOR_OPEN),
+    STOP(STOP_BUTTON, ORDINARY, RAMPING, .flip[CONTACTS] = POST_CONTACT_STOP_BUTTON),
+    STOP(LOW_INSULATION, EARLY, BROKEN, .from = POST_PHASE_INSULATION_TEST,
+         .flip[PRESENT] = POST_PRESENT_INSULATION, .ohms = 39999),
+    STOP(PHASE_TIMEOUT, EARLY, POST_FLAG_STOP_CONTROL + POST_FLAG_SYSTEM_MALFUNCTION,
+         .from = POST_PHASE_LOCKING, .waits = 20),
+    STOP(CHARGING_TIME_OVER, ORDINARY, RAMPING, .waits = 1200),
+    STOP(NONE, NO_STOP, CHARGING, .flip[CONTACTS] = POST_CONTACT_START_BUTTON),
 };
 enum { STOPS = sizeof stops / sizeof *stops };
 
@@ -67,16 +53,11 @@ static struct scene changed(const struct stop *stop) {
     struct scene scene = way[stop->from].scene;
     for (unsigned i = 0; i < BIT_BYTES; i++)
         scene.byte[i] ^= stop->flip[i];
-    if (stop->volts > 0)
-        scene.volts = stop->volts;
-    if (stop->amperes > 0)
-        scene.amperes = stop->amperes;
-    if (stop->ohms > 0)
-        scene.ohms = stop->ohms;
-    if (stop->target > 0)
-        scene.target = stop->target;
-    if (stop->silent)
-        scene.frames = 0;
+    scene.volts = stop->volts > 0 ? stop->volts : scene.volts;
+    scene.amperes = stop->amperes > 0 ? stop->amperes : scene.amperes;
+    scene.ohms = stop->ohms > 0 ? stop->ohms : scene.ohms;
+    scene.target = stop->target > 0 ? stop->target : scene.target;
+    scene.frames = stop->silent ? 0 : scene.frames;
     return scene;
 }
 

@@ -5,21 +5,12 @@
 #include "post.h"
 
 /* The second of two leads is tried, so that lengths count, and every figure is another one. */
-enum {
-    LEADS = 2,
-    LEAD = 1,
-    RATED_VOLTS = 400,
-    RATED_AMPERES = 125,
-    CABLE_RESISTANCE = 0x3E800000, /* 0.25 ohms as a float */
-    MAXIMUM_VOLTAGE = 430,
-    TARGET_VOLTAGE = 380,
-    REQUEST = 100,
-    TIME_TENS = 12,
-    TIME_MINUTES = 34,
-    UNUSED_FAULTS = 0xA0, /* bits that are kept and never asked about */
-    UNUSED_STATUS = 0x40,
-    ROOM = 1024 /* more than any length, right or wrong */
-};
+enum { LEADS = 2, LEAD = 1, RATED_VOLTS = 400, RATED_AMPERES = 125, USUAL_LIMIT = 100000 };
+enum { CABLE_RESISTANCE = 0x3E800000 }; /* 0.25 ohms as a float */
+enum { MAXIMUM_VOLTAGE = 430, TARGET_VOLTAGE = 380, REQUEST = 100 };
+enum { TIME_TENS = 12, TIME_MINUTES = 34 };
+enum { UNUSED_FAULTS = 0xA0, UNUSED_STATUS = 0x40 }; /* bits that nothing is asked about */
+enum { ROOM = 1024 }; /* more than any length, right or wrong */
 
 extern uint8_t state[ROOM], input[ROOM], output[ROOM];
 extern uint32_t power_limit;
@@ -38,11 +29,9 @@ void check(const char *file, int line, const char *name, unsigned long found,
 /* What the checks that follow are about, for that line. */
 void about(const char *what, unsigned long number);
 
-void put_number(uint8_t *place, size_t length, uint32_t number);
-uint32_t get_number(const uint8_t *place, size_t length);
 void put_frame(uint8_t *record, uint16_t identifier, const uint8_t *data);
 
-/* The tried lead's part of state and output. */
+/* The number of one, two or four bytes in the tried lead's part of state and output. */
 uint32_t state_at(size_t place, size_t length);
 uint32_t output_at(size_t place, size_t length);
 
@@ -82,9 +71,9 @@ extern const struct row {
 void set_up(void);          /* a fresh post */
 void reach(unsigned phase); /* a fresh post, its lead taken to this phase */
 
+void try_refusals(void);
 void try_phases(void);
 void try_stops(void);
 void try_records(void);
-void try_refusals(void);
 
 #endif

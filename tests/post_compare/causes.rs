@@ -1,108 +1,149 @@
 //! Why a call is refused: every number that fits, every flaw that there is.
 
-use second::lead::{GOOD, INPUT_BYTES, STATE_BYTES};
-use second::post::{self, ALLOWANCE_BYTES, HEAD_BYTES};
+use second::lead::*;
+use second::post::{self, ALLOWANCE_BYTES};
+use second::sharing::MOST_LEADS;
+use shared::numbers::{Numbers, PLAIN};
 
-use crate::compare::Bytes;
-use crate::coverage::Thing;
-use crate::facts::Setup;
+use crate::compare::Call;
 use crate::numbers;
 
-/// Of a good state, what lies outside its leads.
-pub const GOOD_HEAD: [(&str, fn(&[u8]) -> bool); 5] = [
-    ("1 to 4 leads", |state| matches!(state[0], 1..=4)),
-    ("rated volts 50-500", |state| {
-        (50..=500).contains(&u16::from_le_bytes([state[2], state[3]]))
-    }),
-    ("rated amperes 1-200", |state| matches!(state[1], 1..=200)),
-    ("resistance 0 to 1", |state| {
-        let bytes = [state[4], state[5], state[6], state[7]];
-        (0.0..=1.0).contains(&f32::from_le_bytes(bytes))
-    }),
-    (LENGTH_RIGHT, |state| {
-        state.len() == HEAD_BYTES + STATE_BYTES * usize::from(state[0])
-    }),
-];
+/// A setup, with the length of its state and what was answered.
+pub struct Setup {
+    pub numbers: Numbers,
+    pub length: usize,
+    pub number: u32,
+}
 
-const LENGTH_RIGHT: &str = "length right";
+impl Setup {
+    pub fn right_length(&self) -> usize {
+        post::state_bytes(self.numbers.leads as usize)
+    }
+
+    pub fn fits(&self) -> Vec<u32> {
+        setup_fits(self.numbers, self.length)
+    }
+
+    /// Refused for one thing alone.
+    pub fn alone(&self) -> bool {
+        self.fits().len() == 1
+    }
+}
+
+/// All refusals that fit: what setup refuses of each number alone, the others being good. An empty
+/// state is refused last of all.
+#[rustfmt::skip]
+fn setup_fits(Numbers { leads, volts, amperes, resistance }: Numbers, length: usize) -> Vec<u32> {
+    let one_by_one = [
+        Numbers { leads, ..PLAIN }, Numbers { volts, ..PLAIN },
+        Numbers { amperes, ..PLAIN }, Numbers { resistance, ..PLAIN },
+    ];
+    let mut fits = one_by_one.map(|numbers| numbers.set_up(&mut [])).to_vec();
+    fits.retain(|&refusal| refusal != post::REFUSED_SETUP_LENGTH);
+    if length != post::state_bytes(leads as usize) {
+        fits.push(post::REFUSED_SETUP_LENGTH);
+    }
+    fits
+}
+
+/// A tick, with what was answered. Of one that is refused: all refusals after that of the state
+/// that fit, all flaws of its state or its input, and the lead that alone makes the state a bad
+/// one, by one flaw.
+pub struct Tick {
+    pub number: u32,
+    pub fits: Vec<u32>,
+    pub flaws: Vec<String>,
+    pub bad_lead: Option<BadLead>,
+}
+
+pub struct BadLead {
+    pub record: [u8; STATE_BYTES],
+    pub rating: Rating,
+}
+
+impl Tick {
+    pub fn new(call: &Call, number: u32) -> Tick {
+        let mut tick = Tick {
+            number,
+            fits: Vec::new(),
+            flaws: Vec::new(),
+            bad_lead: None,
+        };
+        match number {
+            post::DONE => return tick,
+            post::REFUSED_STATE => tick.find_state_flaws(&call.state),
+            post::REFUSED_INPUT => tick.flaws = input_flaws(&call.input),
+            _ => {}
+        }
+        // A bad head doesn't tell how many leads there are.
+        let leads = call.state.first().map_or(0, |&leads| usize::from(leads));
+        if (1..=MOST_LEADS).contains(&leads) {
+            let input = call.input.len() != post::input_bytes(leads);
+            let output = call.output.len() != post::output_bytes(leads);
+            let flaws = !input_flaws(&call.input).is_empty();
+            let input = input.then_some(post::REFUSED_INPUT_LENGTH);
+            let output = output.then_some(post::REFUSED_OUTPUT_LENGTH);
+            let flaws = flaws.then_some(post::REFUSED_INPUT);
+            tick.fits = [input, output, flaws].into_iter().flatten().collect();
+        }
+        tick
+    }
+
+    pub fn has_bad_lead(&self, holds: impl Fn(&BadLead) -> bool) -> bool {
+        self.bad_lead.as_ref().is_some_and(holds)
+    }
+
+    /// A state without a whole head has its length for a flaw.
+    fn find_state_flaws(&mut self, state: &[u8]) {
+        let Some((head, records)) = state.split_first_chunk() else {
+            return self.flaws.push(head_flaw(post::REFUSED_SETUP_LENGTH));
+        };
+        let numbers = numbers::of_head(head);
+        let rating = numbers::rating(numbers);
+        let fits = setup_fits(numbers, state.len());
+        self.flaws.extend(fits.into_iter().map(head_flaw));
+        for (lead, &record) in records.as_chunks().0.iter().enumerate() {
+            for condition in GOOD.iter().filter(|good| !(good.holds)(&record, &rating)) {
+                self.flaws.push(lead_flaw(condition.text, lead));
+                self.bad_lead = Some(BadLead { record, rating });
+            }
+        }
+        self.bad_lead.take_if(|_| self.flaws.len() > 1);
+    }
+}
+
+pub fn head_flaw(refusal: u32) -> String {
+    format!("6 alone: what setup refuses with {refusal}")
+}
+
+pub fn lead_flaw(condition: &str, lead: usize) -> String {
+    format!("6 alone: not {condition}, lead {}", lead + 1)
+}
+
+/// Of whole records.
+fn input_flaws(input: &[u8]) -> Vec<String> {
+    let (records, _) = input.get(ALLOWANCE_BYTES..).unwrap_or_default().as_chunks();
+    let flaws = |(lead, record)| lead_input_flaws(record, lead);
+    records.iter().enumerate().flat_map(flaws).collect()
+}
 
 /// What refusal 9 is about, in a lead's input.
-pub const INPUT_FLAWS: [(&str, fn(&[u8; INPUT_BYTES]) -> bool); 8] = [
-    ("contacts bit 7", |input| input[0] & 0x80 != 0),
-    ("present bit 3", |input| input[1] & 0x08 != 0),
-    ("present bit 4", |input| input[1] & 0x10 != 0),
-    ("present bit 5", |input| input[1] & 0x20 != 0),
-    ("present bit 6", |input| input[1] & 0x40 != 0),
-    ("present bit 7", |input| input[1] & 0x80 != 0),
-    ("count above 8", |input| input[2] > 8),
-    ("byte 3 not 0", |input| input[3] != 0),
-];
-
-/// All of setup's numbers that fit.
-pub fn of_setup(setup: &Setup) -> Vec<u32> {
-    let numbers = setup.numbers;
-    refused([
-        (1, (1..=4).contains(&numbers.leads)),
-        (2, (50..=500).contains(&numbers.rated_volts)),
-        (3, (1..=200).contains(&numbers.rated_amperes)),
-        (4, (0.0..=1.0).contains(&setup.resistance())),
-        (5, setup.length as u64 == setup.right_length()),
-    ])
-}
-
-/// All of tick's numbers above 6 that fit, if the state tells how many leads
-/// there are.
-pub fn of_tick(before: &Bytes) -> Vec<u32> {
-    let leads = match before.state.first() {
-        Some(&leads @ 1..=4) => usize::from(leads),
-        _ => return Vec::new(),
-    };
-    refused([
-        (7, before.input.len() == post::input_bytes(leads)),
-        (8, before.output.len() == post::output_bytes(leads)),
-        (9, of_input(&before.input).is_empty()),
-    ])
-}
-
-fn refused<const N: usize>(questions: [(u32, bool); N]) -> Vec<u32> {
-    let noes = questions.iter().filter(|(_, yes)| !yes);
-    noes.map(|(number, _)| *number).collect()
-}
-
-/// All flaws of a state. One without a whole head has its length for a flaw.
-pub fn of_state(state: &[u8]) -> Vec<Thing> {
-    let Some((head, records)) = state.split_first_chunk() else {
-        return vec![Thing::BadHead(LENGTH_RIGHT)];
-    };
-    let rating = numbers::rating(head);
+pub fn lead_input_flaws(record: &[u8; INPUT_BYTES], lead: usize) -> Vec<String> {
     let mut flaws = Vec::new();
-    for (text, holds) in GOOD_HEAD {
-        if !holds(state) {
-            flaws.push(Thing::BadHead(text));
+    let mut flaw = |text: &str| flaws.push(format!("9 alone: {text}, lead {}", lead + 1));
+    for bit in 0..8 {
+        if record[input_place::CONTACTS] & contact::SPARE & 1 << bit != 0 {
+            flaw(&format!("contacts bit {bit}"));
+        }
+        if record[input_place::PRESENT] & present::SPARE & 1 << bit != 0 {
+            flaw(&format!("present bit {bit}"));
         }
     }
-    let (records, _) = records.as_chunks();
-    for (lead, record) in records.iter().enumerate() {
-        for condition in &GOOD {
-            if !(condition.holds)(record, &rating) {
-                flaws.push(Thing::BadLead(condition.text, lead));
-            }
-        }
+    if usize::from(record[input_place::COUNT]) > FRAME_RECORDS {
+        flaw(&format!("count {}", record[input_place::COUNT]));
     }
-    flaws
-}
-
-/// All flaws of an input's whole records.
-pub fn of_input(input: &[u8]) -> Vec<Thing> {
-    let records = input.get(ALLOWANCE_BYTES..).unwrap_or_default();
-    let (records, _) = records.as_chunks();
-    let mut flaws = Vec::new();
-    for (lead, record) in records.iter().enumerate() {
-        for (text, found) in INPUT_FLAWS {
-            if found(record) {
-                flaws.push(Thing::BadInput(text, lead));
-            }
-        }
+    if record[input_place::SPARE] != 0 {
+        flaw("spare byte");
     }
     flaws
 }

@@ -1,241 +1,160 @@
 //! One call made of both, the second implementation and the library.
 
-use std::fmt;
-
+use second::inputs::LeadInput;
 use second::post;
+use shared::dice::Dice;
+use shared::numbers::Numbers;
+use shared::{hex, library};
 
 use crate::coverage::Coverage;
-use crate::dice::Dice;
-use crate::library;
+use crate::turns::{turns, Turn};
 
-/// The parts of the comparison.
-#[derive(Clone, Copy)]
-pub enum Part {
-    Sessions,
-    HandedIn,
-    Garbled,
-}
+/// The parts of the comparison, which elsewhere are places in this list.
+pub const PARTS: [&str; 3] = ["sessions", "handed-in", "garbled"];
 
-impl fmt::Display for Part {
-    fn fmt(&self, f: &mut fmt::Formatter) -> fmt::Result {
-        f.write_str(match self {
-            Part::Sessions => "sessions",
-            Part::HandedIn => "states handed in",
-            Part::Garbled => "garbled calls",
-        })
-    }
-}
-
-/// What setup gets beside the state.
-#[derive(Clone, Copy)]
-pub struct Numbers {
-    pub leads: u32,
-    pub rated_volts: u32,
-    pub rated_amperes: u32,
-    /// The bits of a float.
-    pub resistance: u32,
-}
-
-impl fmt::Display for Numbers {
-    fn fmt(&self, f: &mut fmt::Formatter) -> fmt::Result {
-        write!(
-            f,
-            "setup of {} leads, {} V, {} A, resistance {:08X}",
-            self.leads, self.rated_volts, self.rated_amperes, self.resistance
-        )
-    }
-}
-
-/// A tick about to be called.
+/// What a call gets: setup its numbers and a state, tick the three slices.
 pub struct Call {
+    pub numbers: Option<Numbers>,
     pub state: Vec<u8>,
     pub input: Vec<u8>,
-    pub output_length: usize,
+    pub output: Vec<u8>,
 }
+
+/// What a call came to: the number, and the three slices, each between margins.
+type Answer = (u32, [Vec<u8>; 3]);
 
 /// A list of calls with a seed of its own.
 pub struct Run<'a> {
     pub dice: Dice,
-    part: Part,
+    part: usize,
     number: u64,
-    seed: u64,
     calls: u64,
+    ahead: Ahead<'a>,
     coverage: &'a mut Coverage,
 }
 
-impl Run<'_> {
-    pub fn new(part: Part, number: u64, coverage: &mut Coverage) -> Run<'_> {
+/// Makes the call to come known, with its place.
+pub type Ahead<'a> = &'a dyn Fn(&str, &Call);
+
+impl<'a> Run<'a> {
+    pub fn new(part: usize, number: u64, ahead: Ahead<'a>, coverage: &'a mut Coverage) -> Run<'a> {
         // An odd factor keeps the seeds apart; none of them is 0.
         let seed = (number << 2 | (part as u64 + 1)).wrapping_mul(0x9E37_79B9_7F4A_7C15);
         Run {
             dice: Dice::new(seed),
             part,
             number,
-            seed,
             calls: 0,
+            ahead,
             coverage,
         }
     }
 
-    pub fn setup(&mut self, numbers: Numbers, state: &mut [u8]) -> Result<u32, Difference> {
-        let before = Bytes {
-            state: state.to_vec(),
-            input: Vec::new(),
-            output: Vec::new(),
-        };
-        let Numbers {
-            leads,
-            rated_volts,
-            rated_amperes,
-            resistance,
-        } = numbers;
-        let second = before.through(|state, _, _| {
-            post::setup(leads, rated_volts, rated_amperes, resistance, state)
-        });
-        let library = before.through(|state, _, _| library::setup(numbers, state));
-        self.compare(&numbers, &before, &second, &library)?;
-        self.coverage
-            .setup(self.part, numbers, state.len(), second.number);
-        state.copy_from_slice(inner(&second.state));
-        Ok(second.number)
-    }
-
-    /// The output holds junk before the call. The state is left as after it.
-    pub fn tick(&mut self, call: &mut Call) -> Result<u32, Difference> {
-        let before = Bytes {
-            state: call.state.clone(),
-            input: call.input.clone(),
-            output: self.junk(call.output_length),
-        };
-        let second = before.through(|state, input, output| post::tick(state, input, output));
-        let library = before.through(library::tick);
-        self.compare(&"tick", &before, &second, &library)?;
-        self.coverage.tick(self.part, &before, second.number);
-        call.state.copy_from_slice(inner(&second.state));
-        Ok(second.number)
-    }
-
-    pub fn junk(&mut self, length: usize) -> Vec<u8> {
-        (0..length).map(|_| self.dice.byte()).collect()
-    }
-
-    fn compare(
-        &mut self,
-        call: &dyn fmt::Display,
-        before: &Bytes,
-        second: &Answer,
-        library: &Answer,
-    ) -> Result<(), Difference> {
+    /// The call's state is left as after it.
+    pub fn make(&mut self, call: &mut Call) -> Result<u32, String> {
         self.calls += 1;
-        if second == library {
-            return Ok(());
+        let (part, number, calls) = (PARTS[self.part], self.number, self.calls);
+        let place = format!("call {calls} of run {number} (alone: post_compare {part} {number})");
+        let second = call.through(|state, input, output| match &call.numbers {
+            Some(numbers) => numbers.set_up(state),
+            None => post::tick(state, input, output),
+        });
+        (self.ahead)(&place, call);
+        let library = call.through(|state, input, output| match &call.numbers {
+            Some(numbers) => library::setup(numbers, state),
+            None => library::tick(state, input, output),
+        });
+        if second != library {
+            let [call, second, library] =
+                [call.text(), answer_text(&second), answer_text(&library)];
+            return Err(format!(
+                "difference in {place}: {call}second implementation\n{second}library\n{library}"
+            ));
         }
-        Err(Difference(format!(
-            "difference in {}, run {} (seed {:016X}), call {}: {call}\n\
-             before\n{before}second implementation\n{second}library\n{library}",
-            self.part, self.number, self.seed, self.calls,
-        )))
+        self.coverage.count(self.part, call, second.0);
+        call.state.copy_from_slice(inner(&second.1[0]));
+        Ok(second.0)
     }
 }
 
-/// The three slices of a call; setup has a state alone.
-pub struct Bytes {
-    pub state: Vec<u8>,
-    pub input: Vec<u8>,
-    pub output: Vec<u8>,
-}
-
-/// What a call came to. Each of the three lies between margins.
-#[derive(PartialEq)]
-struct Answer {
-    number: u32,
-    state: Vec<u8>,
-    input: Vec<u8>,
-    output: Vec<u8>,
-}
-
-/// Bytes on either side of a slice, in which no call has any business. An odd
-/// number, as no slice need begin at an even address.
-const MARGIN: usize = 9;
-const MARGIN_BYTE: u8 = 0xC3;
-
-fn lend(bytes: &[u8]) -> Vec<u8> {
-    let mut lent = vec![MARGIN_BYTE; bytes.len() + 2 * MARGIN];
-    inner_mut(&mut lent).copy_from_slice(bytes);
-    lent
-}
+/// Bytes on either side of a slice, in which no call has any business. An odd number, as no slice
+/// need begin at an even address.
+const MARGIN: [u8; 9] = [0xC3; 9];
 
 fn inner(lent: &[u8]) -> &[u8] {
-    &lent[MARGIN..lent.len() - MARGIN]
+    &lent[MARGIN.len()..lent.len() - MARGIN.len()]
 }
 
-fn inner_mut(lent: &mut [u8]) -> &mut [u8] {
-    let end = lent.len() - MARGIN;
-    &mut lent[MARGIN..end]
+pub fn junk(length: usize, dice: &mut Dice) -> Vec<u8> {
+    (0..length).map(|_| dice.byte()).collect()
 }
 
-fn margins_kept(lent: &[u8]) -> bool {
-    let (low, rest) = lent.split_at(MARGIN);
-    let (_, high) = rest.split_at(rest.len() - MARGIN);
-    low.iter().chain(high).all(|&byte| byte == MARGIN_BYTE)
-}
+impl Call {
+    pub fn setup(numbers: Numbers, state: Vec<u8>) -> Call {
+        let mut call = Call::of([state, Vec::new(), Vec::new()]);
+        call.numbers = Some(numbers);
+        call
+    }
 
-impl Bytes {
-    fn through(&self, call: impl Fn(&mut [u8], &mut [u8], &mut [u8]) -> u32) -> Answer {
-        let [mut state, mut input, mut output] =
-            [&self.state, &self.input, &self.output].map(|bytes| lend(bytes));
-        let number = call(
-            inner_mut(&mut state),
-            inner_mut(&mut input),
-            inner_mut(&mut output),
-        );
-        Answer {
-            number,
+    /// A tick.
+    pub fn of([state, input, output]: [Vec<u8>; 3]) -> Call {
+        Call {
+            numbers: None,
             state,
             input,
             output,
         }
     }
-}
 
-/// The first call in which the two differ, in full.
-pub struct Difference(String);
-
-impl fmt::Display for Difference {
-    fn fmt(&self, f: &mut fmt::Formatter) -> fmt::Result {
-        f.write_str(&self.0)
+    /// The allowance is drawn when the wants are known; there are no turns if the state is refused.
+    /// The output holds junk before the call.
+    pub fn tick<A>(state: Vec<u8>, inputs: Vec<LeadInput>, allowance: A, dice: &mut Dice) -> Call
+    where
+        A: FnOnce(&[Turn], &mut Dice) -> u32,
+    {
+        let output = junk(post::output_bytes(inputs.len()), dice);
+        let mut input = shared::post::input(0, inputs);
+        let turns = turns(&state, &input).unwrap_or_default();
+        let allowance = allowance(&turns, dice).to_le_bytes();
+        input[..allowance.len()].copy_from_slice(&allowance);
+        Call::of([state, input, output])
     }
-}
 
-fn write_bytes(f: &mut fmt::Formatter, name: &str, bytes: &[u8]) -> fmt::Result {
-    write!(f, "  {name:6} {:4} bytes ", bytes.len())?;
-    for byte in bytes {
-        write!(f, "{byte:02X}")?;
-    }
-    writeln!(f)
-}
-
-impl fmt::Display for Bytes {
-    fn fmt(&self, f: &mut fmt::Formatter) -> fmt::Result {
-        write_bytes(f, "state", &self.state)?;
-        write_bytes(f, "input", &self.input)?;
-        write_bytes(f, "output", &self.output)
-    }
-}
-
-impl fmt::Display for Answer {
-    fn fmt(&self, f: &mut fmt::Formatter) -> fmt::Result {
-        writeln!(f, "  number {}", self.number)?;
-        for (name, lent) in [
-            ("state", &self.state),
-            ("input", &self.input),
-            ("output", &self.output),
-        ] {
-            write_bytes(f, name, inner(lent))?;
-            if !margins_kept(lent) {
-                writeln!(f, "  bytes beside the {name} were written")?;
-            }
+    pub fn text(&self) -> String {
+        let slices = slices_text(self.slices());
+        match &self.numbers {
+            Some(numbers) => format!("setup of {numbers:?}\n{slices}"),
+            None => format!("tick\n{slices}"),
         }
-        Ok(())
     }
+
+    fn slices(&self) -> [&[u8]; 3] {
+        [&self.state, &self.input, &self.output]
+    }
+
+    fn through(&self, call: impl Fn(&mut [u8], &mut [u8], &mut [u8]) -> u32) -> Answer {
+        let lend = |bytes| [&MARGIN[..], bytes, &MARGIN].concat();
+        let mut lent = self.slices().map(lend);
+        let [state, input, output] = lent.each_mut().map(|lent| {
+            let end = lent.len() - MARGIN.len();
+            &mut lent[MARGIN.len()..end]
+        });
+        (call(state, input, output), lent)
+    }
+}
+
+fn answer_text((number, lent): &Answer) -> String {
+    let slices = slices_text(lent.each_ref().map(|lent| inner(lent)));
+    let kept = |lent: &Vec<u8>| lent.starts_with(&MARGIN) && lent.ends_with(&MARGIN);
+    let note = "  bytes beside a slice were written\n";
+    let beside = if lent.iter().all(kept) { "" } else { note };
+    format!("  number {number}\n{slices}{beside}")
+}
+
+fn slices_text(slices: [&[u8]; 3]) -> String {
+    let names = ["state", "input", "output"].into_iter();
+    let line = |(name, bytes): (&str, &[u8])| {
+        format!("  {name:6} {:4} bytes {}\n", bytes.len(), hex(bytes))
+    };
+    names.zip(slices).map(line).collect()
 }

@@ -1,100 +1,133 @@
-//! What is worth counting of a call beside phases, moves, stops and refusals.
+//! What is worth comparing, as rows of the table: a text, a test, and the parts in which it has to
+//! occur.
 
+use std::collections::BTreeSet;
 use std::ops::RangeInclusive;
 
-use second::frames::{hear, Heard, FRAME_LENGTH, RECORD_BYTES};
-use second::lead::{place, present, Decision, Rating, SEEN_LIMITS, SEEN_STATUS, STATE_BYTES};
+use second::frames::{Heard, FAULTS, FRAME_LENGTH, MOST_AMPERES_SHOWN, RECORD_BYTES, SYSTEM_FAULT};
+use second::lead::*;
+use second::post::*;
+use second::readings::{MOST_AMPERES, MOST_CABLE_RESISTANCE, MOST_VOLTS};
+use second::sharing::MOST_LEADS;
+use shared::lead_input::KNOWN;
+use shared::numbers::{Numbers, TINY};
+use shared::post::number;
+use shared::stops::reasons;
 
-use crate::compare::{Numbers, Part};
-use crate::numbers::TINY;
-use crate::states::number;
-use crate::traffic::KNOWN;
-use crate::turns::Turn;
+use crate::causes::{head_flaw, lead_flaw, lead_input_flaws, BadLead, Setup, Tick};
+use crate::coverage::{Counts, Fact, Table};
+use crate::turns::{wanted, Turn};
 
-/// A fact has to occur in each of its parts.
-pub struct Fact<T: ?Sized> {
-    pub parts: &'static [Part],
-    pub text: &'static str,
-    pub holds: fn(&T) -> bool,
+/// The parts in which a thing has to occur.
+const SESSIONS: Counts = [1, 0, 0];
+const HANDED_IN: Counts = [0, 1, 0];
+const GARBLED: Counts = [0, 0, 1];
+const REACHED: Counts = [1, 1, 0];
+const WITH_REFUSALS: Counts = [1, 0, 1];
+const EVERYWHERE: Counts = [1, 1, 1];
+
+/// Each refusal with each that is asked about later.
+fn pairs(refusals: &[u32]) -> impl Iterator<Item = (u32, u32)> + '_ {
+    let later = |at: usize| refusals[at + 1..].iter();
+    (0..refusals.len()).flat_map(move |at| later(at).map(move |&later| (refusals[at], later)))
 }
 
-const fn fact<T: ?Sized>(
-    parts: &'static [Part],
-    text: &'static str,
-    holds: fn(&T) -> bool,
-) -> Fact<T> {
-    Fact { parts, text, holds }
-}
-
-pub const SESSIONS: &[Part] = &[Part::Sessions];
-pub const HANDED_IN: &[Part] = &[Part::HandedIn];
-pub const GARBLED: &[Part] = &[Part::Garbled];
-pub const REACHED: &[Part] = &[Part::Sessions, Part::HandedIn];
-pub const WITH_REFUSALS: &[Part] = &[Part::Sessions, Part::Garbled];
-pub const EVERYWHERE: &[Part] = &[Part::Sessions, Part::HandedIn, Part::Garbled];
-
-// ---------------------------------------------------------------------------
 // Setups
 
-pub struct Setup {
-    pub numbers: Numbers,
-    pub length: usize,
+#[rustfmt::skip]
+pub fn of_setups() -> Table<Setup> {
+    let mut table = Table::of(SETUPS);
+    for answer in [DONE].into_iter().chain(SETUP_REFUSALS) {
+        table.row(WITH_REFUSALS, format!("setup returns {answer}"), move |setup| setup.number == answer);
+    }
+    for (first, later) in pairs(&SETUP_REFUSALS) {
+        table.row(GARBLED, format!("setup returns {first}, where {later} fits too"), move |setup|
+            setup.number == first && setup.fits().contains(&later));
+    }
+    for (name, number, least, most) in SETUP_EDGES {
+        for value in [least, most] {
+            table.row(GARBLED, format!("setup with {name} {value}"), move |setup| setup.number == DONE && number(&setup.numbers) == value);
+        }
+        for value in [least - 1, most + 1] {
+            table.row(GARBLED, format!("setup refused for {name} {value}"), move |setup| setup.alone() && number(&setup.numbers) == value);
+        }
+    }
+    for (name, ohms, taken) in SETUP_OHMS {
+        let kind = if taken { "with" } else { "refused for" };
+        table.row(GARBLED, format!("setup {kind} {name} ohms"), move |setup|
+            setup.numbers.resistance == ohms.to_bits() && (setup.number == DONE || setup.alone() && !taken));
+    }
+    table
 }
 
-impl Setup {
-    pub fn resistance(&self) -> f32 {
-        f32::from_bits(self.numbers.resistance)
-    }
-
-    pub fn right_length(&self) -> u64 {
-        8 + 32 * u64::from(self.numbers.leads)
-    }
-
-    /// How many bytes too long the state is.
-    fn surplus(&self) -> i64 {
-        self.length as i64 - self.right_length() as i64
-    }
-}
-
-/// Of a setup that is carried out.
 #[rustfmt::skip]
-pub const SETUPS_DONE: &[Fact<Setup>] = &[
-    fact(GARBLED, "setup with 50 V", |setup| setup.numbers.rated_volts == 50),
-    fact(GARBLED, "setup with 500 V", |setup| setup.numbers.rated_volts == 500),
-    fact(GARBLED, "setup with 1 A", |setup| setup.numbers.rated_amperes == 1),
-    fact(GARBLED, "setup with 200 A", |setup| setup.numbers.rated_amperes == 200),
-    fact(GARBLED, "setup with 0 ohms", |setup| setup.numbers.resistance == 0),
-    fact(GARBLED, "setup with minus zero ohms", |setup| setup.numbers.resistance == 0x8000_0000),
-    fact(GARBLED, "setup with subnormal ohms", |setup| setup.resistance() == TINY),
-    fact(GARBLED, "setup with 1 ohm", |setup| setup.resistance() == 1.0),
+const SETUP_EDGES: [(&str, fn(&Numbers) -> u32, u32, u32); 3] = [
+    ("leads", |numbers| numbers.leads, 1, MOST_LEADS as u32),
+    ("volts", |numbers| numbers.volts, LEAST_RATED_VOLTS, MOST_RATED_VOLTS),
+    ("amperes", |numbers| numbers.amperes, LEAST_RATED_AMPERES, MOST_RATED_AMPERES),
 ];
 
-/// Of a setup that is refused for one thing alone.
+/// Resistances that are taken, and others.
 #[rustfmt::skip]
-pub const SETUPS_REFUSED: &[Fact<Setup>] = &[
-    fact(GARBLED, "setup refused for 0 leads", |setup| setup.numbers.leads == 0),
-    fact(GARBLED, "setup refused for 5 leads", |setup| setup.numbers.leads == 5),
-    fact(GARBLED, "setup refused for 49 V", |setup| setup.numbers.rated_volts == 49),
-    fact(GARBLED, "setup refused for 501 V", |setup| setup.numbers.rated_volts == 501),
-    fact(GARBLED, "setup refused for volts above two bytes", |setup| setup.numbers.rated_volts > 0xFFFF),
-    fact(GARBLED, "setup refused for 0 A", |setup| setup.numbers.rated_amperes == 0),
-    fact(GARBLED, "setup refused for 201 A", |setup| setup.numbers.rated_amperes == 201),
-    fact(GARBLED, "setup refused for amperes above a byte", |setup| setup.numbers.rated_amperes > 0xFF),
-    fact(GARBLED, "setup refused for ohms just below 0", |setup| setup.resistance() == -TINY),
-    fact(GARBLED, "setup refused for ohms just above 1", |setup| setup.resistance() == 1.0f32.next_up()),
-    fact(GARBLED, "setup refused for NaN ohms", |setup| setup.resistance().is_nan()),
-    fact(GARBLED, "setup refused for infinite ohms", |setup| setup.resistance().is_infinite()),
-    fact(GARBLED, "setup refused for an empty state", |setup| setup.length == 0),
-    fact(GARBLED, "setup refused for a byte too few", |setup| setup.surplus() == -1),
-    fact(GARBLED, "setup refused for a byte too many", |setup| setup.surplus() == 1),
+const SETUP_OHMS: [(&str, f32, bool); 8] = [
+    ("0", 0.0, true), ("minus zero", -0.0, true), ("subnormal", TINY, true), ("1", MOST_CABLE_RESISTANCE, true),
+    ("just below 0", -TINY, false), ("just above 1", MOST_CABLE_RESISTANCE.next_up(), false),
+    ("infinite", f32::INFINITY, false), ("NaN", f32::NAN, false),
 ];
 
-// ---------------------------------------------------------------------------
-// Ticks refused for one thing of a lead alone
+#[rustfmt::skip]
+const SETUPS: &[Fact<Setup>] = &[
+    ([1_000, 0, 10_000], "setups", |_| true),
+    (GARBLED, "setup refused for volts above two bytes", |setup| setup.alone() && setup.numbers.volts > 0xFFFF),
+    (GARBLED, "setup refused for amperes above a byte", |setup| setup.alone() && setup.numbers.amperes > 0xFF),
+    (GARBLED, "setup refused for an empty state", |setup| setup.alone() && setup.length == 0),
+    (GARBLED, "setup refused for a byte too few", |setup| setup.alone() && setup.length + 1 == setup.right_length()),
+    (GARBLED, "setup refused for a byte too many", |setup| setup.alone() && setup.length == setup.right_length() + 1),
+];
 
-pub struct BadLead {
-    pub record: [u8; STATE_BYTES],
-    pub rating: Rating,
+// Ticks refused
+
+#[rustfmt::skip]
+pub fn of_ticks() -> Table<Tick> {
+    let mut table = Table::of(&[([200_000, 100_000, 5_000], "tick is carried out", |tick: &Tick| tick.number == DONE)]);
+    for answer in TICK_REFUSALS {
+        table.row(EVERYWHERE, format!("tick returns {answer}"), move |tick| tick.number == answer);
+    }
+    for (first, later) in pairs(&TICK_REFUSALS) {
+        table.row(WITH_REFUSALS, format!("tick returns {first}, where {later} fits too"), move |tick|
+            tick.number == first && tick.fits.contains(&later));
+    }
+    let mut flaws: Vec<String> = SETUP_REFUSALS.into_iter().map(head_flaw).collect();
+    // A record with every flaw, and one with the least count that is too high.
+    let mut flawed = [0; INPUT_BYTES];
+    flawed[input_place::COUNT] = FRAME_RECORDS as u8 + 1;
+    for lead in 0..MOST_LEADS {
+        flaws.extend(GOOD.iter().map(|condition| lead_flaw(condition.text, lead)));
+        flaws.extend(lead_input_flaws(&[0xFF; INPUT_BYTES], lead));
+        flaws.extend(lead_input_flaws(&flawed, lead));
+    }
+    for flaw in flaws {
+        table.row(HANDED_IN, flaw.clone(), move |tick| tick.flaws == [flaw.as_str()]);
+    }
+    for at in place::SPARE..STATE_BYTES {
+        table.row(HANDED_IN, format!("6 alone: byte {at} of a lead not 0"), move |tick| tick.has_bad_lead(|lead| lead.record[at] != 0));
+    }
+    for bit in SEEN_ALL.count_ones()..8 {
+        table.row(HANDED_IN, format!("6 alone: seen bit {bit}"), move |tick|
+            tick.has_bad_lead(|lead| lead.record[place::SEEN] & !SEEN_ALL == 1 << bit));
+    }
+    for phase in (0..=LAST_PHASE).filter(|phase| !matches!(phase, 6 | 7)) {
+        table.row(HANDED_IN, format!("6 alone: command 1 in {phase}"), move |tick|
+            tick.has_bad_lead(|lead| lead.has(place::PHASE, phase) && lead.has(place::COMMAND, 1)));
+    }
+    for phase in 2..=7 {
+        table.row(HANDED_IN, format!("6 alone: threshold 0 in {phase}"), move |tick|
+            tick.has_bad_lead(|lead| lead.has(place::PHASE, phase) && lead.threshold() == 0));
+    }
+    for (least, text, holds) in BAD_LEADS {
+        table.row(*least, text.to_string(), move |tick| tick.has_bad_lead(holds));
+    }
+    table
 }
 
 impl BadLead {
@@ -108,35 +141,184 @@ impl BadLead {
 }
 
 #[rustfmt::skip]
-pub const BAD_LEADS: &[Fact<BadLead>] = &[
-    fact(HANDED_IN, "6 alone: phase 11", |lead| lead.has(place::PHASE, 11)),
-    fact(HANDED_IN, "6 alone: reason 10", |lead| lead.has(place::REASON, 10)),
-    fact(HANDED_IN, "6 alone: reason 30", |lead| lead.has(place::REASON, 30)),
-    fact(HANDED_IN, "6 alone: command rated + 1", |lead| lead.has(place::COMMAND, lead.rating.amperes + 1)),
-    fact(HANDED_IN, "6 alone: command 1 in 5", |lead| lead.has(place::COMMAND, 1)
-        && lead.has(place::PHASE, 5)),
-    fact(HANDED_IN, "6 alone: command 1 in 8", |lead| lead.has(place::COMMAND, 1)
-        && lead.has(place::PHASE, 8)),
-    fact(HANDED_IN, "6 alone: seen 8", |lead| lead.has(place::SEEN, 8)),
-    fact(HANDED_IN, "6 alone: seen 255", |lead| lead.has(place::SEEN, 255)),
-    fact(HANDED_IN, "6 alone: threshold 49", |lead| lead.threshold() == 49),
-    fact(HANDED_IN, "6 alone: threshold rated + 1", |lead| lead.threshold() == lead.rating.volts + 1),
-    fact(HANDED_IN, "6 alone: threshold 50 in 1", |lead| lead.threshold() == 50 && lead.has(place::PHASE, 1)),
-    fact(HANDED_IN, "6 alone: threshold 0 in 2", |lead| lead.threshold() == 0 && lead.has(place::PHASE, 2)),
-    fact(HANDED_IN, "6 alone: threshold 0 in 7", |lead| lead.threshold() == 0 && lead.has(place::PHASE, 7)),
+const BAD_LEADS: &[Fact<BadLead>] = &[
+    (HANDED_IN, "6 alone: the first phase that there isn't", |lead| lead.has(place::PHASE, LAST_PHASE + 1)),
+    (HANDED_IN, "6 alone: phase 255", |lead| lead.has(place::PHASE, 255)),
+    (HANDED_IN, "6 alone: reason below the least", |lead| lead.has(place::REASON, reasons()[0] - 1)),
+    (HANDED_IN, "6 alone: reason above the highest", |lead| lead.has(place::REASON, reasons()[1] + 1)),
+    (HANDED_IN, "6 alone: command rated + 1", |lead| lead.has(place::COMMAND, lead.rating.amperes + 1)),
+    (HANDED_IN, "6 alone: seen 255", |lead| lead.has(place::SEEN, 255)),
+    (HANDED_IN, "6 alone: threshold 49", |lead| lead.threshold() == LEAST_VOLTS - 1),
+    (HANDED_IN, "6 alone: threshold rated + 1", |lead| lead.threshold() == lead.rating.volts + 1),
+    (HANDED_IN, "6 alone: threshold 50 in 1", |lead| lead.threshold() == LEAST_VOLTS && lead.has(place::PHASE, 1)),
 ];
 
-// ---------------------------------------------------------------------------
+// Posts in ticks that are carried out
+
+#[rustfmt::skip]
+pub fn of_posts() -> Table<[Turn]> {
+    let mut table = Table::of(POSTS);
+    for leads in 1..=MOST_LEADS {
+        table.row(EVERYWHERE, format!("leads: {leads}"), move |turns| turns.len() == leads);
+        table.row(REACHED, format!("leads in 6 or 7 at once: {leads}"), move |turns|
+            turns.iter().filter(|turn| matches!(turn.after.phase, 6 | 7)).count() == leads);
+        table.row(REACHED, format!("leads that want more than there is: {leads}"), move |turns|
+            turns.iter().filter(|turn| turn.want > 0).count() == leads && any_short(turns));
+    }
+    for (name, ohms) in CABLES {
+        table.row(REACHED, format!("cable resistance {name}"), move |turns|
+            turns[0].standing.rating.cable_resistance.to_bits() == ohms.to_bits());
+    }
+    table
+}
+
+#[rustfmt::skip]
+const CABLES: [(&str, f32); 5] = [("0", 0.0), ("minus zero", -0.0), ("subnormal", TINY), ("0.5", 0.5), ("1", 1.0)];
+
+fn any_short(turns: &[Turn]) -> bool {
+    turns.iter().any(Turn::is_short)
+}
+
+fn any_wants_in(turns: &[Turn], phase: u8) -> bool {
+    let mut those = turns.iter().filter(|turn| turn.after.phase == phase);
+    those.any(|turn| turn.want > 0)
+}
+
+const MOST_WATTS: u32 = MOST_LEADS as u32 * MOST_RATED_VOLTS * MOST_RATED_AMPERES;
+
+#[rustfmt::skip]
+const POSTS: &[Fact<[Turn]>] = &[
+    (REACHED, "all wants are met", |turns| wanted(turns) > 0 && !any_short(turns)),
+    (REACHED, "some wants are met, others not", |turns| any_short(turns) && turns.iter().any(|turn| turn.want > 0 && !turn.is_short())),
+    (HANDED_IN, "the most watts are met", |turns| wanted(turns) == MOST_WATTS && !any_short(turns)),
+    (HANDED_IN, "the most watts are not met", |turns| wanted(turns) == MOST_WATTS && any_short(turns)),
+    (REACHED, "a lead ramps down while another charges", |turns| any_wants_in(turns, 7) && any_wants_in(turns, 6)),
+    (SESSIONS, "a lead starts anew while another charges", |turns| any_wants_in(turns, 6)
+        && turns.iter().any(|turn| turn.moved_from(0) && turn.before.reason != 0)),
+    (REACHED, "another cable resistance", |turns| !CABLES.iter().any(|cable| cable.1 == turns[0].standing.rating.cable_resistance)),
+];
+
 // Leads in ticks that are carried out
+
+#[rustfmt::skip]
+pub fn of_turns() -> Table<Turn> {
+    let mut table = Table::of(TURNS);
+    for phase in 0..=LAST_PHASE {
+        table.row(REACHED, format!("phase {phase}"), move |turn| turn.after.phase == phase);
+        table.row(REACHED, format!("stay in {phase}"), move |turn| turn.stayed_in(phase));
+        // Only a stop ends 6.
+        if phase != 6 {
+            table.row(REACHED, format!("move from {phase}"), move |turn| turn.moved_from(phase));
+        }
+        table.row(HANDED_IN, format!("age 4,294,967,295 in {phase}"), move |turn| turn.at_age(phase, u32::MAX));
+    }
+    for question in &QUESTIONS {
+        let number = question.number;
+        // In 7 and 8 none is.
+        table.row(REACHED, format!("reason {number} recorded"), move |turn|
+            turn.stopped_for(number) && turn.after.reason == number && !turn.began_in(7..=8));
+        for phase in question.first..=question.last {
+            table.row(REACHED, format!("stop {number} from {phase}"), move |turn| turn.stopped_for(number) && turn.before.phase == phase);
+        }
+    }
+    for (kind, is_urgent) in [("urgent", true), ("ordinary", false)] {
+        let questions = QUESTIONS.iter().filter(|question| question.urgent == is_urgent);
+        let phases: BTreeSet<u8> = questions.flat_map(|question| question.first..=question.last).collect();
+        for phase in phases {
+            table.row(REACHED, format!("{kind} stop from {phase}"), move |turn| matches!(turn.decision,
+                Decision::Stopped { urgent, from, .. } if urgent == is_urgent && from == phase));
+        }
+    }
+    for (phase, limit) in (0..).zip(AGE_LIMITS).skip(1) {
+        for age in [limit - 1, limit] {
+            table.row(REACHED, format!("age {age} in {phase}"), move |turn| turn.at_age(phase, age));
+        }
+    }
+    for phase in [4, 9] {
+        table.row(REACHED, format!("safe volts end {phase}"), move |turn| turn.moved_from(phase) && turn.has_volts(SAFE_VOLTS));
+        table.row(REACHED, format!("safe volts + 1 don't end {phase}"), move |turn|
+            turn.stayed_in(phase) && turn.has_volts(SAFE_VOLTS + 1));
+        table.row(REACHED, format!("safe volts exactly, and 0 A, in {phase}"), move |turn|
+            turn.before.phase == phase && turn.value(VOLTS) == Some(SAFE_VOLTS.into()) && turn.value(AMPERES) == Some(0.0));
+    }
+    for bit in 0..FAULTS.count_ones() {
+        table.row(REACHED, format!("stop 20 for fault {bit} alone"), move |turn| turn.stopped_for_faults(1 << bit, 0));
+    }
+    // A session leaves phase 1 after all three frames.
+    for seen in 0..SEEN_ALL {
+        table.row(HANDED_IN, format!("seen {seen} in 2-6"), move |turn| turn.before.seen == seen && turn.began_in(2..=6));
+    }
+    for count in 0..=FRAME_RECORDS as u8 {
+        table.row(REACHED, format!("frame count {count}"), move |turn| turn.input[input_place::COUNT] == count);
+    }
+    for flag in 0..6 {
+        for (word, set) in [("set", 1), ("clear", 0)] {
+            table.row(REACHED, format!("H'109 flag {flag} {word}"), move |turn|
+                matches!(turn.after.phase, 1..=9) && turn.h109(5) >> flag & 1 == set);
+        }
+    }
+    for (name, heard) in FRAMES {
+        for (phases, began) in [("1", 1..=1), ("2-6", 2..=6), ("7 or 8", 7..=8)] {
+            table.row(REACHED, format!("{name} in {phases}"), move |turn| heard(&turn.sent) && turn.began_in(began.clone()));
+        }
+        table.row(REACHED, format!("{name} in 0, 9, 10"), move |turn| heard(&turn.sent) && matches!(turn.before.phase, 0 | 9 | 10));
+        table.row(REACHED, format!("{name} past the count"), move |turn| heard(&turn.past_the_count));
+    }
+    for (unit, in_minutes, at) in [("tens of seconds", false, 6), ("minutes", true, 7)] {
+        table.row(REACHED, format!("remaining {unit} in 2-5"), move |turn| turn.keeps_time(2..=5, in_minutes) && turn.h109(at) > 0);
+        table.row(REACHED, format!("remaining {unit} in 6"), move |turn| turn.keeps_time(6..=6, in_minutes) && turn.h109(at) > 0);
+        table.row(REACHED, format!("no remaining {unit} in 6"), move |turn| turn.keeps_time(6..=6, in_minutes) && turn.h109(at) == 0);
+        table.row(HANDED_IN, format!("last of the charging time in {unit}"), move |turn|
+            turn.stayed_in(6) && turn.keeps_time(6..=6, in_minutes) && turn.charging_time_left() == Some(1));
+        table.row(HANDED_IN, format!("end of the charging time in {unit}"), move |turn|
+            turn.stopped_for(29) && turn.keeps_time(7..=7, in_minutes) && turn.charging_time_left() == Some(0));
+    }
+    for (name, reading) in READINGS {
+        for (kind, holds) in KINDS {
+            table.row(REACHED, format!("{name} {kind}"), move |turn| holds(turn.value(reading)));
+        }
+    }
+    for (name, reading, most) in [("volts", VOLTS, MOST_VOLTS), ("amperes", AMPERES, MOST_AMPERES)] {
+        for (kind, value) in [("at their most", most), ("just above it", most.next_up()), ("just below 0", -TINY)] {
+            table.row(REACHED, format!("{name} {kind}"), move |turn| turn.value(reading) == Some(value));
+        }
+    }
+    table
+}
+
+/// What a car sends. H'100 and H'101 are heard in 1, H'102 in 1 to 8.
+#[rustfmt::skip]
+const FRAMES: [(&str, fn(&Heard) -> bool); 3] = [
+    ("H'100", |heard| heard.maximum_voltage.is_some()),
+    ("H'101", |heard| heard.charging_time.is_some()),
+    ("H'102", |heard| heard.status.is_some()),
+];
+
+/// A reading of an input: present bit and place.
+type Reading = (u8, usize);
+
+const VOLTS: Reading = (present::VOLTS, input_place::VOLTS);
+const AMPERES: Reading = (present::AMPERES, input_place::AMPERES);
+const OHMS: Reading = (present::RESISTANCE, input_place::OHMS);
+const READINGS: [(&str, Reading); 3] = [("volts", VOLTS), ("amperes", AMPERES), ("ohms", OHMS)];
+
+#[rustfmt::skip]
+const KINDS: [(&str, fn(Option<f32>) -> bool); 6] = [
+    ("missing", |value| value.is_none()),
+    ("NaN", |value| value.is_some_and(f32::is_nan)),
+    ("plus infinity", |value| value == Some(f32::INFINITY)),
+    ("minus infinity", |value| value == Some(f32::NEG_INFINITY)),
+    ("minus zero", |value| value.is_some_and(|value| value.to_bits() == (-0.0f32).to_bits())),
+    ("subnormal", |value| value.is_some_and(|value| value.is_subnormal() && value > 0.0)),
+];
 
 impl Turn {
     fn began_in(&self, phases: RangeInclusive<u8>) -> bool {
         phases.contains(&self.before.phase)
     }
 
-    /// Frames are not taken there, and no questions asked.
-    fn began_unheard(&self) -> bool {
-        matches!(self.before.phase, 0 | 9 | 10)
+    fn at_age(&self, phase: u8, age: u32) -> bool {
+        self.before.phase == phase && self.before.age == age
     }
 
     fn stayed_in(&self, phase: u8) -> bool {
@@ -151,197 +333,150 @@ impl Turn {
         matches!(self.decision, Decision::Stopped { question, .. } if question == number)
     }
 
-    fn stopped_late(&self) -> bool {
-        matches!(self.decision, Decision::Stopped { from: 7 | 8, .. })
+    fn stopped_in(&self, phase: u8) -> bool {
+        matches!(self.decision, Decision::Stopped { from, .. } if from == phase)
+    }
+
+    /// These and no others.
+    fn stopped_for_faults(&self, faults: u8, system_fault: u8) -> bool {
+        let car = &self.after.car;
+        let found = (car.faults & FAULTS, car.status & SYSTEM_FAULT);
+        self.stopped_for(20) && found == (faults, system_fault)
     }
 
     fn is_short(&self) -> bool {
         self.want > self.level
     }
 
-    fn raised(&self) -> bool {
-        self.after.command > self.before.command
-    }
-
     fn lowered_into(&self, phase: u8) -> bool {
         self.after.phase == phase && self.after.command < self.before.command
     }
 
-    fn records(&self) -> (&[[u8; RECORD_BYTES]], &[[u8; RECORD_BYTES]]) {
-        let (records, _) = self.input[16..].as_chunks();
-        records.split_at(self.input[2].into())
+    /// Those of a known identifier: whether their lengths are right.
+    fn lengths_right(&self, known: u16) -> impl Iterator<Item = bool> + '_ {
+        let is_known = move |record: &&[u8; RECORD_BYTES]| number(*record, 0) == known;
+        let records = self.frames().filter(is_known);
+        records.map(|record| record[2] == FRAME_LENGTH)
     }
 
-    fn sent(&self) -> Heard {
-        hear(self.records().0)
-    }
-
-    fn past_the_count(&self) -> Heard {
-        hear(self.records().1)
-    }
-
-    fn other_identifier(&self) -> bool {
-        let mut records = self.records().0.iter();
-        records.any(|record| !KNOWN.contains(&identifier(record)))
+    fn frames(&self) -> impl Iterator<Item = &[u8; RECORD_BYTES]> {
+        let (records, _) = self.input[input_place::FRAMES..].as_chunks();
+        records.iter().take(self.input[input_place::COUNT].into())
     }
 
     /// A known identifier twice or more, the first of the right length.
     fn twice(&self, last_is_right: bool) -> bool {
         KNOWN.iter().any(|&known| {
-            let records = self.records().0.iter();
-            let mut right = records
-                .filter(|record| identifier(*record) == known)
-                .map(|record| record[2] == FRAME_LENGTH);
+            let mut right = self.lengths_right(known);
             right.next() == Some(true) && right.last() == Some(last_is_right)
         })
     }
 
     /// A value of the input, if it is there.
-    pub fn value(&self, present: u8, at: usize) -> Option<f32> {
+    fn value(&self, (bit, at): Reading) -> Option<f32> {
         let bytes = self.input[at..].first_chunk()?;
-        (self.input[1] & present != 0).then(|| f32::from_le_bytes(*bytes))
+        (self.input[input_place::PRESENT] & bit != 0).then(|| f32::from_le_bytes(*bytes))
     }
 
-    fn has_ohms(&self, ohms: f32) -> bool {
-        self.value(present::RESISTANCE, 12) == Some(ohms)
+    fn has_volts(&self, volts: u16) -> bool {
+        self.measured.is_some_and(|of| of.connector_volts == volts)
     }
 
-    fn least_ohms(&self) -> f32 {
-        100.0 * f32::from(self.before.threshold)
+    fn h109(&self, at: usize) -> u8 {
+        self.output[output_place::H109 + at]
     }
 
-    fn has_volts(&self, connector_volts: u16) -> bool {
-        let measured = self.measured;
-        measured.is_some_and(|measured| measured.connector_volts == connector_volts)
+    /// Before the tick.
+    fn charging_time_left(&self) -> Option<u32> {
+        let ticks = self.after.charging_time.ticks().0;
+        ticks.checked_sub(self.before.age)
     }
 
-    fn has_amperes(&self, amperes: RangeInclusive<u16>) -> bool {
-        let measured = self.measured;
-        measured.is_some_and(|measured| amperes.contains(&measured.amperes))
+    /// The phase after the tick, and the unit of the kept H'101.
+    fn keeps_time(&self, phases: RangeInclusive<u8>, in_minutes: bool) -> bool {
+        phases.contains(&self.after.phase) && self.after.charging_time.in_minutes() == in_minutes
     }
-
-    fn over_rated(&self, amperes: u16) -> bool {
-        let amperes = u16::from(self.rating.amperes) + amperes;
-        self.has_amperes(amperes..=amperes)
-    }
-}
-
-fn identifier(record: &[u8; RECORD_BYTES]) -> u16 {
-    number(record, 0)
 }
 
 #[rustfmt::skip]
-pub const TURNS: &[Fact<Turn>] = &[
-    fact(REACHED, "command raised", |turn| turn.raised()),
-    fact(REACHED, "command raised by less than wanted", |turn| turn.raised() && turn.is_short()),
-    fact(REACHED, "command lowered in 6 by the request", |turn| turn.lowered_into(6) && !turn.is_short()),
-    fact(REACHED, "command lowered in 6 by the level", |turn| turn.lowered_into(6) && turn.is_short()),
-    fact(REACHED, "command lowered in 7", |turn| turn.lowered_into(7) && !turn.is_short()),
-    fact(REACHED, "command lowered in 7 by the level too", |turn| turn.lowered_into(7) && turn.is_short()),
-    fact(REACHED, "command cut off by an urgent stop", |turn| turn.lowered_into(9)),
+const TURNS: &[Fact<Turn>] = &[
+    (REACHED, "command raised", |turn| turn.after.command > turn.before.command),
+    (REACHED, "command raised by less than wanted", |turn| turn.after.command > turn.before.command && turn.is_short()),
+    (REACHED, "command held in 6", |turn| turn.after.phase == 6 && turn.after.command > 0 && turn.after.command == turn.before.command),
+    (REACHED, "command lowered in 6 by the request", |turn| turn.lowered_into(6) && !turn.is_short()),
+    (REACHED, "command lowered in 6 by the level", |turn| turn.lowered_into(6) && turn.is_short()),
+    (REACHED, "command lowered in 7", |turn| turn.lowered_into(7) && !turn.is_short() && turn.after.command > 0),
+    (REACHED, "command lowered in 7 by the level too", |turn| turn.lowered_into(7) && turn.is_short()),
+    (REACHED, "command cut off by an urgent stop", |turn| turn.lowered_into(9)),
     // A session's command is 0 long before: 200 A take 20 ticks.
-    fact(HANDED_IN, "command cut off in 7 at age 30", |turn| turn.lowered_into(8)),
+    (HANDED_IN, "command cut off in 7 at age 30", |turn| turn.lowered_into(8)),
+    (REACHED, "more wanted in 6 than the level", |turn| turn.after.phase == 6 && turn.is_short()),
+    (REACHED, "more wanted in 7 than the level", |turn| turn.after.phase == 7 && turn.is_short()),
+    (REACHED, "the level wanted exactly", |turn| turn.want > 0 && turn.want == turn.level),
+    (REACHED, "level 0 in 6", |turn| turn.after.phase == 6 && turn.is_short() && turn.level == 0),
 
-    fact(REACHED, "reason remains in 7 or 8", |turn| turn.stopped_late() && turn.before.reason != 0),
+    (REACHED, "reason remains in 7", |turn| turn.stopped_in(7) && turn.before.reason != 0 && turn.after.reason == turn.before.reason),
+    (REACHED, "reason remains in 8", |turn| turn.stopped_in(8) && turn.before.reason != 0 && turn.after.reason == turn.before.reason),
     // A session enters 7 and 8 by a stop only, and 1 to 6 without a reason.
-    fact(HANDED_IN, "reason 0 remains in 7 or 8", |turn| turn.stopped_late() && turn.before.reason == 0),
-    fact(HANDED_IN, "reason overwritten in 1-6", |turn| turn.before.reason != 0 && turn.after.reason != 0
+    (HANDED_IN, "reason 0 remains in 7", |turn| turn.stopped_in(7) && turn.after.reason == 0),
+    (HANDED_IN, "reason 0 remains in 8", |turn| turn.stopped_in(8) && turn.after.reason == 0),
+    (HANDED_IN, "reason overwritten in 1-6", |turn| turn.before.reason != 0 && turn.after.reason != 0
         && turn.before.reason != turn.after.reason),
-    fact(REACHED, "reason cleared by a start", |turn| turn.moved_from(0) && turn.before.reason != 0),
-    fact(REACHED, "reason shown in 0", |turn| turn.stayed_in(0) && turn.before.reason != 0),
+    (HANDED_IN, "reason handed in stays in 1-6", |turn| turn.decision == Decision::Stayed && turn.began_in(1..=6)
+        && turn.before.reason != 0 && turn.after.reason == turn.before.reason),
+    (REACHED, "reason cleared by a start", |turn| turn.moved_from(0) && turn.before.reason != 0),
+    (REACHED, "reason shown in 0", |turn| turn.stayed_in(0) && turn.before.reason != 0),
+    (REACHED, "stop 20 for a system fault alone", |turn| turn.stopped_for_faults(0, SYSTEM_FAULT)),
 
-    fact(REACHED, "7 to 8 at age 30 with more than 4 A", |turn| turn.moved_from(7) && turn.before.age == 30
-        && turn.has_amperes(5..=400)),
-    fact(REACHED, "8 to 9 at age 40, contactor closed", |turn| turn.moved_from(8) && turn.before.age == 40
-        && !turn.after.car.contactor_open()),
-    // No session is so long, and no silence of one passes 141: 99 ticks in 1, one
-    // in 2, 41 in 8.
-    fact(HANDED_IN, "age 4,294,967,294 grows", |turn| turn.before.age == u32::MAX - 1
-        && turn.after.age == u32::MAX),
-    fact(HANDED_IN, "age 4,294,967,295 stays", |turn| turn.before.age == u32::MAX
-        && turn.after.age == u32::MAX),
-    fact(HANDED_IN, "silence 254 grows", |turn| turn.before.silence == 254 && turn.after.silence == 255),
-    fact(HANDED_IN, "silence 255 stays", |turn| turn.before.silence == 255 && turn.after.silence == 255
-        && turn.began_in(1..=8)),
-    fact(HANDED_IN, "silence 255 ends", |turn| turn.before.silence == 255 && turn.after.silence == 0),
-    fact(REACHED, "silence 9 in 2-6", |turn| turn.after.silence == 9 && turn.began_in(2..=6)),
-    fact(REACHED, "silence 10 in 1", |turn| turn.after.silence == 10 && turn.began_in(1..=1)),
-    fact(REACHED, "silence 10 in 7 or 8", |turn| turn.after.silence == 10 && turn.began_in(7..=8)),
-    fact(REACHED, "silence kept in 0, 9, 10", |turn| turn.before.silence != 0 && turn.after.silence != 0
-        && turn.began_unheard()),
+    (REACHED, "age 29 doesn't end 7", |turn| turn.stayed_in(7) && turn.before.age == RAMP_DOWN_LIMIT - 1),
+    (REACHED, "7 to 8 at age 30 with more than 4 A", |turn| turn.moved_from(7)
+        && turn.before.age == RAMP_DOWN_LIMIT && turn.measured.is_some_and(|of| of.amperes > SAFE_AMPERES)),
+    (REACHED, "age 39 doesn't end 8", |turn| turn.stayed_in(8) && turn.before.age == CONTACTOR_OPENING_LIMIT - 1),
+    (REACHED, "8 to 9 at age 40, contactor closed", |turn| turn.moved_from(8)
+        && turn.before.age == CONTACTOR_OPENING_LIMIT && !turn.after.car.contactor_open()),
+    // No session is so long, and no silence of one passes 141: 99 ticks in 1, one in 2, 41 in 8.
+    (HANDED_IN, "age 4,294,967,294 grows", |turn| turn.before.age == u32::MAX - 1 && turn.after.age == u32::MAX),
+    (HANDED_IN, "age 4,294,967,295 stays", |turn| turn.before.age == u32::MAX && turn.after.age == u32::MAX),
+    (HANDED_IN, "silence 254 grows", |turn| turn.before.silence == 254 && turn.after.silence == 255),
+    (HANDED_IN, "silence 255 stays", |turn| turn.before.silence == 255 && turn.after.silence == 255 && turn.began_in(1..=8)),
+    (HANDED_IN, "silence 255 ends", |turn| turn.before.silence == 255 && turn.after.silence == 0),
+    (REACHED, "silence just below the limit in 2-6", |turn| turn.after.silence == SILENCE_LIMIT - 1 && turn.began_in(2..=6)),
+    (REACHED, "silence at the limit in 1", |turn| turn.after.silence == SILENCE_LIMIT && turn.began_in(1..=1)),
+    (REACHED, "silence at the limit in 7 or 8", |turn| turn.after.silence == SILENCE_LIMIT && turn.began_in(7..=8)),
+    (REACHED, "silence kept in 0, 9, 10", |turn| turn.before.silence.min(turn.after.silence) > 0
+        && matches!(turn.before.phase, 0 | 9 | 10)),
 
-    fact(REACHED, "H'100 heard", |turn| turn.sent().maximum_voltage.is_some() && turn.began_in(1..=1)),
-    fact(REACHED, "H'101 heard", |turn| turn.sent().charging_time.is_some() && turn.began_in(1..=1)),
-    fact(REACHED, "H'102 heard in 1-6", |turn| turn.sent().status.is_some() && turn.began_in(1..=6)),
-    fact(REACHED, "H'102 heard in 7 or 8", |turn| turn.sent().status.is_some() && turn.began_in(7..=8)),
-    fact(REACHED, "H'100 ignored in 2-8", |turn| turn.sent().maximum_voltage.is_some()
-        && turn.began_in(2..=8)),
-    fact(REACHED, "H'101 ignored in 2-8", |turn| turn.sent().charging_time.is_some()
-        && turn.began_in(2..=8)),
-    fact(REACHED, "H'102 ignored in 0, 9, 10", |turn| turn.sent().status.is_some() && turn.began_unheard()),
-    fact(REACHED, "H'102 past the count", |turn| turn.past_the_count().status.is_some()),
-    fact(REACHED, "two frames of one identifier", |turn| turn.twice(true)),
-    fact(REACHED, "a wrong length after a right one", |turn| turn.twice(false)),
-    fact(REACHED, "another identifier", |turn| turn.other_identifier()),
-    // A session leaves phase 1 after all three frames.
-    fact(HANDED_IN, "H'100 or H'102 not seen in 2-6", |turn| turn.began_in(2..=6)
-        && turn.after.seen & (SEEN_LIMITS | SEEN_STATUS) != SEEN_LIMITS | SEEN_STATUS),
+    (REACHED, "two frames of one identifier", |turn| turn.twice(true)),
+    (REACHED, "a wrong length", |turn| KNOWN.iter().any(|&known| turn.lengths_right(known).any(|right| !right))),
+    (REACHED, "a wrong length after a right one", |turn| turn.twice(false)),
+    (REACHED, "another identifier", |turn| turn.frames().any(|record| !KNOWN.contains(&number(record, 0)))),
 
-    fact(REACHED, "connector volts at the threshold in 5-7", |turn| turn.began_in(5..=7)
-        && turn.has_volts(turn.before.threshold)),
-    fact(REACHED, "connector volts 1 above the threshold", |turn| turn.stopped_for(16)
-        && turn.has_volts(turn.before.threshold + 1)),
-    fact(REACHED, "amperes at rated + 5 in 5-7", |turn| turn.began_in(5..=7) && turn.over_rated(5)),
-    fact(REACHED, "amperes at rated + 6", |turn| turn.stopped_for(17) && turn.over_rated(6)),
-    fact(REACHED, "10 V end 4", |turn| turn.moved_from(4) && turn.has_volts(10)),
-    fact(REACHED, "11 V don't end 4", |turn| turn.stayed_in(4) && turn.has_volts(11)),
-    fact(REACHED, "4 A end 7", |turn| turn.moved_from(7) && turn.has_amperes(4..=4) && turn.before.age < 30),
-    fact(REACHED, "5 A don't end 7", |turn| turn.stayed_in(7) && turn.has_amperes(5..=5)
-        && turn.before.command == 0),
-    fact(REACHED, "10 V end 9", |turn| turn.moved_from(9) && turn.has_volts(10)),
-    fact(REACHED, "11 V don't end 9", |turn| turn.stayed_in(9) && turn.has_volts(11)),
-    fact(REACHED, "no good reading in 9", |turn| turn.stayed_in(9) && turn.measured.is_none()),
-    fact(REACHED, "insulation at its least", |turn| turn.moved_from(3) && turn.has_ohms(turn.least_ohms())),
-    fact(REACHED, "insulation just below its least", |turn| turn.stopped_for(27)
-        && turn.has_ohms(turn.least_ohms().next_down())),
-    fact(REACHED, "insulation plus infinity", |turn| turn.moved_from(3) && turn.has_ohms(f32::INFINITY)),
+    (REACHED, "connector volts at the threshold in 5-7", |turn| turn.began_in(5..=7) && turn.has_volts(turn.before.threshold)),
+    (REACHED, "connector volts 1 above the threshold", |turn| turn.stopped_for(16) && turn.has_volts(turn.before.threshold + 1)),
+    (REACHED, "connector volts 0 of a negative difference", |turn| turn.measured.is_some()
+        && turn.value(AMPERES).map(|amperes| turn.standing.rating.cable_resistance * amperes) > turn.value(VOLTS)),
+    (REACHED, "amperes at rated + 5 in 5-7", |turn| turn.began_in(5..=7) && turn.value(AMPERES) == Some(turn.standing.most_amperes())),
+    (REACHED, "amperes just above rated + 5", |turn| turn.stopped_for(17)
+        && turn.value(AMPERES) == Some(turn.standing.most_amperes().next_up())),
+    (REACHED, "amperes above 255 shown as 255", |turn| matches!(turn.after.phase, 1..=9)
+        && turn.measured.is_some_and(|of| of.amperes > MOST_AMPERES_SHOWN) && u16::from(turn.h109(3)) == MOST_AMPERES_SHOWN),
+    (REACHED, "4 A end 7", |turn| turn.moved_from(7) && turn.value(AMPERES) == Some(SAFE_AMPERES.into())
+        && turn.before.age < RAMP_DOWN_LIMIT),
+    (REACHED, "just above 4 A doesn't end 7", |turn| turn.stayed_in(7) && turn.before.command == 0
+        && turn.value(AMPERES) == Some(f32::from(SAFE_AMPERES).next_up())),
+    (REACHED, "no good reading in 9", |turn| turn.stayed_in(9) && turn.measured.is_none()),
+    (REACHED, "insulation at its least", |turn| turn.moved_from(3) && turn.value(OHMS) == Some(turn.standing.least_ohms())),
+    (REACHED, "insulation just below its least", |turn| turn.stopped_for(27)
+        && turn.value(OHMS) == Some(turn.standing.least_ohms().next_down())),
+    (REACHED, "insulation plus infinity", |turn| turn.moved_from(3) && turn.value(OHMS) == Some(f32::INFINITY)),
 
-    fact(HANDED_IN, "good: threshold 50", |turn| turn.before.threshold == 50),
-    fact(HANDED_IN, "good: threshold rated", |turn| turn.before.threshold == turn.rating.volts),
-    fact(HANDED_IN, "good: threshold 0 in 8-10", |turn| turn.before.threshold == 0 && turn.began_in(8..=10)),
-    fact(HANDED_IN, "good: command rated", |turn| turn.before.command == turn.rating.amperes),
-    fact(HANDED_IN, "good: reason 11", |turn| turn.before.reason == 11),
-    fact(HANDED_IN, "good: reason 29", |turn| turn.before.reason == 29),
-];
+    (REACHED, "test volts", |turn| number(&turn.output, output_place::TEST_VOLTS) != 0),
+    (REACHED, "no remaining time in 1 or 7-9, H'FF kept", |turn| turn.keeps_time(7..=9, true) || turn.keeps_time(1..=1, true)),
 
-// ---------------------------------------------------------------------------
-// Posts in ticks that are carried out
-
-fn wanted(turns: &[Turn]) -> u32 {
-    turns.iter().map(|turn| turn.want).sum()
-}
-
-fn any_short(turns: &[Turn]) -> bool {
-    turns.iter().any(Turn::is_short)
-}
-
-fn any_wants_in(turns: &[Turn], phase: u8) -> bool {
-    let mut turns = turns.iter();
-    turns.any(|turn| turn.after.phase == phase && turn.want > 0)
-}
-
-#[rustfmt::skip]
-pub const POSTS: &[Fact<[Turn]>] = &[
-    fact(REACHED, "all wants are met", |turns| wanted(turns) > 0 && !any_short(turns)),
-    fact(REACHED, "some wants are met, others not", |turns| any_short(turns)
-        && turns.iter().any(|turn| turn.want > 0 && !turn.is_short())),
-    fact(REACHED, "one lead alone wants too much", |turns| any_short(turns)
-        && turns.iter().filter(|turn| turn.want > 0).count() == 1),
-    // Four leads of 500 V and 200 A.
-    fact(HANDED_IN, "400,000 W are met", |turns| wanted(turns) == 400_000 && !any_short(turns)),
-    fact(HANDED_IN, "400,000 W are not met", |turns| wanted(turns) == 400_000 && any_short(turns)),
-    fact(REACHED, "a lead ramps down while another charges", |turns| any_wants_in(turns, 7)
-        && any_wants_in(turns, 6)),
-    fact(SESSIONS, "a lead starts anew while another charges", |turns| any_wants_in(turns, 6)
-        && turns.iter().any(|turn| turn.moved_from(0) && turn.before.reason != 0)),
+    (HANDED_IN, "good: threshold 50", |turn| turn.before.threshold == LEAST_VOLTS),
+    (HANDED_IN, "good: threshold rated", |turn| turn.before.threshold == turn.standing.rating.volts),
+    (HANDED_IN, "good: threshold 0 in 8-10", |turn| turn.before.threshold == 0 && turn.began_in(8..=10)),
+    (HANDED_IN, "good: command rated", |turn| turn.before.command == turn.standing.rating.amperes),
+    (HANDED_IN, "good: the least reason", |turn| turn.before.reason == reasons()[0]),
+    (HANDED_IN, "good: the highest reason", |turn| turn.before.reason == reasons()[1]),
 ];

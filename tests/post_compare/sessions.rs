@@ -1,145 +1,115 @@
-//! Posts set up and ticked, each lead steered through its phases to a stop and
-//! round again. Refused calls and other setups come in between.
+//! Posts set up and ticked, each lead steered through its phases to a stop and round again. Refused
+//! calls and other setups come in between.
 
-use std::mem;
+use second::post;
+use second::sharing::MOST_LEADS;
+use shared::dice::Dice;
+use shared::lead_input::build;
+use shared::plan::Plan;
+use shared::post::Post;
 
-use second::lead::{Lead, Rating, STATE_BYTES};
-use second::post::{self, Head, HEAD_BYTES};
-
-use crate::allowance::Supply;
-use crate::compare::{Call, Difference, Run};
-use crate::dice::Dice;
-use crate::lead_input::build;
+use crate::compare::{junk, Call, Run};
 use crate::numbers;
-use crate::plan::Plan;
-use crate::turns::turns;
+use crate::turns::{edge, Turn};
 
-pub fn run(run: &mut Run) -> Result<(), Difference> {
+pub fn run(run: &mut Run) -> Result<(), String> {
     let mut session = Session::begin(run)?;
     let longest = run.dice.pick(&[300, 300, 300, 300, 300, 300, 900]);
     for _ in 0..40 + run.dice.below(longest) {
         if run.dice.one_in(12) {
-            session.refused_tick(run)?;
+            // One thing wrong, or two. A bad state is a copy: the post's own is never written by
+            // others.
+            let mut call = session.tick(&mut run.dice);
+            for _ in 0..1 + run.dice.below(2) {
+                call.spoil(&mut run.dice);
+            }
+            run.make(&mut call)?;
         }
         if run.dice.one_in(60) {
-            session.refused_setup(run)?;
+            let mut call = session.refused_setup(&mut run.dice);
+            assert_ne!(run.make(&mut call)?, post::DONE, "{:?}", call.numbers);
         }
         if run.dice.one_in(400) {
             session = Session::begin(run)?;
         }
-        session.tick(run)?;
+        let mut call = session.tick(&mut run.dice);
+        assert_eq!(run.make(&mut call)?, post::DONE, "a steered tick");
+        session.post.state = call.state;
     }
     Ok(())
 }
 
 struct Session {
-    state: Vec<u8>,
-    rating: Rating,
+    post: Post,
     plans: Vec<Plan>,
     supply: Supply,
-    /// All leads make for phase 6 and stay there long, to share.
-    eager: bool,
 }
 
 impl Session {
-    /// Sets a post up, over whatever lay there.
-    fn begin(run: &mut Run) -> Result<Session, Difference> {
-        let leads = 1 + run.dice.below(4);
-        let numbers = numbers::good(leads, &mut run.dice);
-        let mut state = run.junk(post::state_bytes(leads as usize));
-        let number = run.setup(numbers, &mut state)?;
-        assert_eq!(number, post::DONE, "{numbers}");
-        let rating = rating(&state);
+    /// Sets a post up, over whatever lay there. Now and then all leads are eager, to share.
+    fn begin(run: &mut Run) -> Result<Session, String> {
+        let count = 1 + run.dice.below(MOST_LEADS as u32);
+        let numbers = numbers::good(count, &mut run.dice);
+        let state = junk(post::state_bytes(count as usize), &mut run.dice);
+        let mut call = Call::setup(numbers, state);
+        assert_eq!(run.make(&mut call)?, post::DONE, "{numbers:?}");
+        let post = Post::of(call.state);
         let dice = &mut run.dice;
         let eager = dice.one_in(3);
+        let plans = (0..count).map(|_| Plan::draw(post.rating, eager, dice));
         Ok(Session {
-            plans: (0..leads)
-                .map(|_| Plan::draw(&rating, eager, dice))
-                .collect(),
-            supply: Supply::draw(most_watts(&rating, leads), dice),
-            rating,
-            state,
-            eager,
+            plans: plans.collect(),
+            supply: draw_supply(&post, dice),
+            post,
         })
     }
 
-    fn leads(&self) -> usize {
-        self.plans.len()
-    }
-
-    fn lead(&self, at: usize) -> Lead {
-        let (records, _) = self.state[HEAD_BYTES..].as_chunks::<STATE_BYTES>();
-        Lead::read(&records[at], &self.rating).expect("a tick leaves a good state")
-    }
-
-    fn tick(&mut self, run: &mut Run) -> Result<(), Difference> {
-        let mut call = Call {
-            input: self.input(&mut run.dice),
-            output_length: post::output_bytes(self.leads()),
-            state: mem::take(&mut self.state),
-        };
-        let number = run.tick(&mut call)?;
-        assert_eq!(number, post::DONE, "a steered tick is carried out");
-        self.state = call.state;
-        Ok(())
-    }
-
-    fn input(&mut self, dice: &mut Dice) -> Vec<u8> {
+    fn tick(&mut self, dice: &mut Dice) -> Call {
         if dice.one_in(25) {
-            self.supply = Supply::draw(most_watts(&self.rating, self.leads() as u32), dice);
+            self.supply = draw_supply(&self.post, dice);
         }
-        let mut input = vec![0; post::ALLOWANCE_BYTES];
-        for at in 0..self.leads() {
-            let lead = self.lead(at);
-            let plan = &mut self.plans[at];
-            if lead.phase == 0 && lead.age == 0 {
-                *plan = Plan::draw(&self.rating, self.eager, dice);
-            }
-            let scene = plan.scene(&lead, &self.rating, dice);
-            input.extend_from_slice(&build(scene, lead.phase, dice).0);
+        let mut inputs = Vec::new();
+        for (lead, plan) in self.post.leads().iter().zip(&mut self.plans) {
+            inputs.push(build(plan.scene(lead, dice), lead.phase, dice));
         }
-        let turns = turns(&self.state, &input).expect("a good state and a good input");
-        let allowance = self.supply.allowance(&turns, dice);
-        input[..post::ALLOWANCE_BYTES].copy_from_slice(&allowance.to_le_bytes());
-        input
+        let allowance = |turns: &[Turn], dice: &mut Dice| allowance(self.supply, turns, dice);
+        Call::tick(self.post.state.clone(), inputs, allowance, dice)
     }
 
-    /// A tick with one thing wrong, or two. A bad state is a copy: the post's
-    /// own is never written by others.
-    fn refused_tick(&mut self, run: &mut Run) -> Result<(), Difference> {
-        let mut call = Call {
-            state: self.state.clone(),
-            input: self.input(&mut run.dice),
-            output_length: post::output_bytes(self.leads()),
-        };
-        for _ in 0..1 + run.dice.below(2) {
-            call.spoil(&mut run.dice);
-        }
-        run.tick(&mut call)?;
-        Ok(())
-    }
-
-    /// Setup of the post's own state, refused.
-    fn refused_setup(&mut self, run: &mut Run) -> Result<(), Difference> {
-        let dice = &mut run.dice;
-        let leads = self.leads() as u32;
-        let mut numbers = numbers::good(leads, dice);
+    /// Of the post's own state.
+    fn refused_setup(&self, dice: &mut Dice) -> Call {
+        let count = self.plans.len() as u32;
+        let mut numbers = numbers::good(count, dice);
         if dice.one_in(3) {
-            numbers.leads = 1 + leads % 4;
+            numbers.leads = 1 + count % MOST_LEADS as u32;
         } else {
             numbers::spoil(&mut numbers, dice);
         }
-        let number = run.setup(numbers, &mut self.state)?;
-        assert_ne!(number, post::DONE, "{numbers}");
-        Ok(())
+        Call::setup(numbers, self.post.state.clone())
     }
 }
 
-fn rating(state: &[u8]) -> Rating {
-    let head = state.first_chunk().and_then(Head::read);
-    head.expect("a head as setup takes it").rating
+/// What a post is fed with for a while: these watts, or without them so many that they are near a
+/// number at which a command changes.
+type Supply = Option<u32>;
+
+/// Ample, in one bit or in all, is what the whole post may ask for and more.
+fn draw_supply(post: &Post, dice: &mut Dice) -> Supply {
+    let [volts, amperes] = [post.rating.volts, post.rating.amperes.into()].map(u32::from);
+    let watts = volts * amperes * post.leads().len() as u32;
+    match dice.below(6) {
+        0 => Some(dice.pick(&[watts, watts + 1, 1 << 19, 1 << 24, 1 << 31, u32::MAX])),
+        1 => Some(dice.below(4)),
+        2 => None,
+        _ => Some(dice.below(watts + 1) / (1 + dice.below(4))),
+    }
 }
 
-fn most_watts(rating: &Rating, leads: u32) -> u32 {
-    u32::from(rating.volts) * u32::from(rating.amperes) * leads
+fn allowance(supply: Supply, turns: &[Turn], dice: &mut Dice) -> u32 {
+    // A lead that ramps down seldom meets a tight supply by itself.
+    let ramping = |turn: &Turn| turn.after.phase == 7 && turn.want > 0;
+    match supply {
+        Some(watts) if !(turns.iter().any(ramping) && dice.one_in(3)) => watts,
+        _ => edge(turns, dice),
+    }
 }

@@ -1,22 +1,28 @@
-//! What the second implementation makes of a tick that is carried out, lead by
-//! lead.
+//! What the second implementation makes of a tick that is carried out, lead by lead.
 
-use second::lead::{Decision, Input, Lead, Rating, INPUT_BYTES, STATE_BYTES};
+use second::frames::{hear, Heard, RECORD_BYTES};
+use second::lead::*;
 use second::post::{Head, ALLOWANCE_BYTES, HEAD_BYTES};
 use second::readings::Measured;
 use second::sharing::{level, MOST_LEADS};
+use shared::dice::Dice;
+use shared::stops::Standing;
 
 pub struct Turn {
     pub input: [u8; INPUT_BYTES],
     pub measured: Option<Measured>,
-    pub rating: Rating,
+    pub standing: Standing,
     pub before: Lead,
     /// After the division.
     pub after: Lead,
+    pub output: [u8; OUTPUT_BYTES],
     pub decision: Decision,
     /// In watts.
     pub want: u32,
     pub level: u32,
+    /// What the frames up to the count say, and those past it.
+    pub sent: Heard,
+    pub past_the_count: Heard,
 }
 
 /// `None` if the tick is refused for its state or its input.
@@ -26,10 +32,8 @@ pub fn turns(state: &[u8], input: &[u8]) -> Option<Vec<Turn>> {
     let (records, rest) = records.as_chunks::<STATE_BYTES>();
     let (allowance, inputs) = input.split_first_chunk::<ALLOWANCE_BYTES>()?;
     let (inputs, input_rest) = inputs.as_chunks::<INPUT_BYTES>();
-    if records.len() != leads
-        || inputs.len() != leads
-        || !(rest.is_empty() && input_rest.is_empty())
-    {
+    let whole = rest.is_empty() && input_rest.is_empty();
+    if !whole || records.len() != leads || inputs.len() != leads {
         return None;
     }
     let mut turns = Vec::with_capacity(leads);
@@ -40,21 +44,58 @@ pub fn turns(state: &[u8], input: &[u8]) -> Option<Vec<Turn>> {
         let mut after = before;
         let decision = after.advance(&input, &rating);
         *want = after.want(&rating);
+        let (frames, _) = bytes[input_place::FRAMES..].as_chunks::<RECORD_BYTES>();
         turns.push(Turn {
             input: *bytes,
             measured: input.measured,
-            rating,
+            standing: Standing {
+                phase: before.phase,
+                threshold: before.threshold,
+                rating,
+            },
             before,
             after,
+            output: [0; OUTPUT_BYTES],
             decision,
             want: *want,
             level: 0,
+            sent: hear(input.frames),
+            past_the_count: hear(&frames[input.frames.len()..]),
         });
     }
     let level = level(wants, u32::from_le_bytes(*allowance));
     for turn in &mut turns {
         turn.level = level;
         turn.after.take(level, &rating);
+        let input = Input::read(&turn.input, &rating)?;
+        turn.after.output(&input, &rating, &mut turn.output);
     }
     Some(turns)
+}
+
+/// By all together, in watts.
+pub fn wanted(turns: &[Turn]) -> u32 {
+    turns.iter().map(|turn| turn.want).sum()
+}
+
+/// An allowance near one at which a command changes: all wants, as many times one of them as there
+/// are, or so much that the level is a whole number of amperes; then a watt or a lead's watt more
+/// or less.
+pub fn edge(turns: &[Turn], dice: &mut Dice) -> u32 {
+    let wanting: Vec<&Turn> = turns.iter().filter(|turn| turn.want > 0).collect();
+    let count = wanting.len() as u32;
+    if count == 0 {
+        return dice.below(8);
+    }
+    let one = dice.pick(&wanting);
+    let volts = u32::from(one.after.threshold);
+    let watts = match dice.below(4) {
+        0 => wanted(turns),
+        1 => one.want * count,
+        2 => dice.below(one.want / volts + 1) * volts * count,
+        _ => dice.below(wanted(turns) + 1),
+    };
+    let more = dice.pick(&[0, 1, count - 1]);
+    let less = dice.pick(&[0, 1, count]);
+    (watts + more).saturating_sub(less)
 }

@@ -7,10 +7,10 @@ use crate::post;
 use crate::sharing::MOST_LEADS;
 
 /// "One above 1,000 characters" is answered `?`. The line feed isn't counted.
-const LONGEST_LINE: usize = 1000;
+pub const LONGEST_LINE: usize = 1000;
 
 /// "Setup's first three numbers are decimal, at most 65,535."
-const LARGEST_DECIMAL: u32 = 65_535;
+pub const LARGEST_DECIMAL: u32 = 65_535;
 
 const RESISTANCE_DIGITS: usize = 8;
 

@@ -28,7 +28,7 @@ pub const CONTACTOR_OPEN: u8 = 1 << 3;
 pub const STOP_REQUEST: u8 = 1 << 4;
 
 /// Byte 3 of H'109 holds no more.
-const MOST_AMPERES_SHOWN: u16 = 255;
+pub const MOST_AMPERES_SHOWN: u16 = 255;
 
 #[derive(Clone, Copy, Debug, PartialEq, Eq)]
 pub struct TensOfSeconds(pub u8);
@@ -243,27 +243,20 @@ mod tests {
     }
 
     #[test]
-    fn starred_charging_times() {
-        assert_eq!(time(6, 0).ticks(), Ticks(600));
-        assert_eq!(time(6, 200).ticks(), Ticks(600));
-        assert_eq!(time(0xFF, 6).ticks(), Ticks(3_600));
-        assert_eq!(time(0, 0).ticks(), Ticks(0));
-        assert_eq!(time(0, 9).ticks(), Ticks(0));
-        assert_eq!(time(0xFF, 0).ticks(), Ticks(0));
-        assert_eq!(time(0xFE, 0).ticks(), Ticks(25_400));
-        assert_eq!(time(0xFF, 0xFF).ticks(), Ticks(153_000));
-    }
-
-    #[test]
-    fn remaining_time_in_both_units() {
-        assert_eq!(time(6, 9).remaining(Ticks(0)), [6, 0]);
-        assert_eq!(time(6, 9).remaining(Ticks(1)), [5, 0]);
-        assert_eq!(time(6, 9).remaining(Ticks(600)), [0, 0]);
-        assert_eq!(time(6, 9).remaining(Ticks(601)), [0, 0]);
-        assert_eq!(time(0xFF, 6).remaining(Ticks(0)), [0xFF, 6]);
-        assert_eq!(time(0xFF, 6).remaining(Ticks(600)), [0xFF, 5]);
-        assert_eq!(time(0xFF, 6).remaining(Ticks(601)), [0xFF, 4]);
-        assert_eq!(time(0xFF, 255).remaining(Ticks(0)), [0xFF, 255]);
+    #[rustfmt::skip]
+    fn charging_times() {
+        for (byte_1, byte_2, ticks) in [
+            (6, 0, 600), (6, 200, 600), (0xFF, 6, 3_600), (0, 0, 0), (0, 9, 0), (0xFF, 0, 0),
+            (0xFE, 0, 25_400), (0xFF, 0xFF, 153_000),
+        ] {
+            assert_eq!(time(byte_1, byte_2).ticks(), Ticks(ticks));
+        }
+        for (byte_1, byte_2, age, shown) in [
+            (6, 9, 0, [6, 0]), (6, 9, 1, [5, 0]), (6, 9, 600, [0, 0]), (6, 9, 601, [0, 0]),
+            (0xFF, 6, 0, [0xFF, 6]), (0xFF, 6, 600, [0xFF, 5]), (0xFF, 6, 601, [0xFF, 4]), (0xFF, 255, 0, [0xFF, 255]),
+        ] {
+            assert_eq!(time(byte_1, byte_2).remaining(Ticks(age)), shown);
+        }
     }
 
     #[test]
@@ -273,55 +266,49 @@ mod tests {
             record(0x101, 8, [9, 6, 7, 9, 9, 9, 9, 9]),
             record(0x102, 8, [9, 0x5E, 0x01, 120, 0xE0, 0xE1, 9, 9]),
         ]);
-        assert_eq!(heard.maximum_voltage, Some(400));
-        assert_eq!(heard.charging_time, Some(time(6, 7)));
-        let status = heard.status.unwrap();
-        assert_eq!(
-            status,
-            CarStatus {
-                target_voltage: 350,
-                requested_amperes: 120,
-                faults: 0xE0,
-                status: 0xE1,
-            }
-        );
-        assert!(status.faults_clear() && status.enabled() && status.in_park());
-        assert!(!status.contactor_open() && !status.stop_request());
+        let status = CarStatus {
+            target_voltage: 350,
+            requested_amperes: 120,
+            faults: 0xE0,
+            status: 0xE1,
+        };
+        let expected = Heard {
+            maximum_voltage: Some(400),
+            charging_time: Some(time(6, 7)),
+            status: Some(status),
+        };
+        assert_eq!(heard, expected);
     }
 
     #[test]
     fn status_bits() {
-        let status = |faults, status| CarStatus {
+        let car = |faults, status| CarStatus {
             target_voltage: 0,
             requested_amperes: 0,
             faults,
             status,
         };
         for bit in 0..8 {
-            assert_eq!(status(1 << bit, 0).faults_clear(), bit > 4);
-            assert_eq!(status(0, 1 << bit).enabled(), bit == 0);
-            assert_eq!(status(0, 1 << bit).in_park(), bit != 1);
-            assert_eq!(status(0, 1 << bit).faults_clear(), bit != 2);
-            assert_eq!(status(0, 1 << bit).contactor_open(), bit == 3);
-            assert_eq!(status(0, 1 << bit).stop_request(), bit == 4);
+            assert_eq!(car(1 << bit, 0).faults_clear(), bit > 4);
+            assert_eq!(car(0, 1 << bit).enabled(), bit == 0);
+            assert_eq!(car(0, 1 << bit).in_park(), bit != 1);
+            assert_eq!(car(0, 1 << bit).faults_clear(), bit != 2);
+            assert_eq!(car(0, 1 << bit).contactor_open(), bit == 3);
+            assert_eq!(car(0, 1 << bit).stop_request(), bit == 4);
         }
     }
 
     #[test]
     fn the_last_of_length_8_counts() {
-        let limits = |volts: u8| [0, 0, 0, 0, volts, 0, 0, 0];
-        let heard = hear(&[
-            record(0x100, 8, limits(100)),
-            record(0x100, 8, limits(110)),
-            record(0x100, 7, limits(120)),
-            record(0x100, 9, limits(130)),
-            record(0x100, 255, limits(140)),
-        ]);
-        assert_eq!(heard.maximum_voltage, Some(110));
-    }
-
-    #[test]
-    fn other_identifiers() {
+        for identifier in [0x100, 0x101, 0x102] {
+            let alone = hear(&[record(identifier, 8, [2; 8])]);
+            assert_ne!(alone, Heard::default());
+            let first = record(identifier, 8, [1; 8]);
+            let mut records = vec![first, record(identifier, 8, [2; 8])];
+            records.extend([0, 7, 9, 255].map(|length| record(identifier, length, [3; 8])));
+            assert_eq!(hear(&records), alone);
+            assert_eq!(hear(&records[2..]), Heard::default());
+        }
         for identifier in [
             0x0001, 0x0201, 0x8100, 0x8102, 0x0108, 0x0109, 0x0103, 0x0902,
         ] {
@@ -332,23 +319,21 @@ mod tests {
 
     #[test]
     fn frames_sent() {
-        assert_eq!(
-            charger_limits(500, 125, 400),
-            [1, 0xF4, 0x01, 125, 0x90, 0x01, 0, 0]
-        );
-        let flags = ChargerFlags {
-            charging: false,
-            charger_malfunction: true,
-            connector_locked: false,
-            battery_incompatible: true,
-            system_malfunction: false,
-            stop_control: true,
-        };
-        assert_eq!(
-            charger_status(401, 256, flags, [5, 0]),
-            [2, 0x91, 0x01, 255, 0, 0b101010, 5, 0]
-        );
-        assert_eq!(charger_status(0, 255, flags, [0, 0])[3], 255);
-        assert_eq!(charger_status(0, 254, flags, [0, 0])[3], 254);
+        let limits = charger_limits(500, 125, 400);
+        assert_eq!(limits, [1, 0xF4, 0x01, 125, 0x90, 0x01, 0, 0]);
+        for bit in 0..6 {
+            let flags = ChargerFlags {
+                charging: bit == 0,
+                charger_malfunction: bit == 1,
+                connector_locked: bit == 2,
+                battery_incompatible: bit == 3,
+                system_malfunction: bit == 4,
+                stop_control: bit == 5,
+            };
+            for (amperes, shown) in [(254, 254), (255, 255), (256, 255), (400, 255)] {
+                let status = charger_status(401, amperes, flags, [5, 7]);
+                assert_eq!(status, [2, 0x91, 0x01, shown, 0, 1 << bit, 5, 7]);
+            }
+        }
     }
 }

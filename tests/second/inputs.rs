@@ -1,33 +1,27 @@
-//! A lead's input put together by name, for tests and test rows.
+//! A lead's input put together by name, for tests and test programs.
 
 use crate::frames::{Data, CAR_LIMITS, CAR_STATUS, CAR_TIMES, FRAME_LENGTH, RECORD_BYTES};
+use crate::lead::input_place::{AMPERES, CONTACTS, COUNT, FRAMES, OHMS, PRESENT, VOLTS};
 use crate::lead::{present, FRAME_RECORDS, INPUT_BYTES};
-
-const PRESENT: usize = 1;
-const COUNT: usize = 2;
-const VOLTS: usize = 4;
-const AMPERES: usize = 8;
-const OHMS: usize = 12;
-const RECORDS: usize = 16;
 
 #[derive(Clone, Copy, Debug)]
 pub struct LeadInput(pub [u8; INPUT_BYTES]);
 
 impl LeadInput {
     /// These contacts closed or pressed, no reading, no frame.
-    pub fn new(contacts: u8) -> LeadInput {
+    pub const fn new(contacts: u8) -> LeadInput {
         let mut bytes = [0; INPUT_BYTES];
-        bytes[0] = contacts;
+        bytes[CONTACTS] = contacts;
         LeadInput(bytes)
     }
 
     pub fn close(mut self, contacts: u8) -> LeadInput {
-        self.0[0] |= contacts;
+        self.0[CONTACTS] |= contacts;
         self
     }
 
     pub fn open(mut self, contacts: u8) -> LeadInput {
-        self.0[0] &= !contacts;
+        self.0[CONTACTS] &= !contacts;
         self
     }
 
@@ -71,7 +65,7 @@ impl LeadInput {
 
     /// A record in a place, the count left as it is.
     pub fn record(&mut self, at: usize, identifier: u16, length: u8, data: Data) {
-        let record = &mut self.0[RECORDS + RECORD_BYTES * at..][..RECORD_BYTES];
+        let record = &mut self.0[FRAMES + RECORD_BYTES * at..][..RECORD_BYTES];
         record[..2].copy_from_slice(&identifier.to_le_bytes());
         record[2] = length;
         record[3..].copy_from_slice(&data);

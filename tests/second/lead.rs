@@ -30,11 +30,43 @@ pub mod place {
     pub const SPARE: usize = 20;
 }
 
+/// Places in a lead's part of the input.
+pub mod input_place {
+    pub const CONTACTS: usize = 0;
+    pub const PRESENT: usize = 1;
+    pub const COUNT: usize = 2;
+    pub const SPARE: usize = 3;
+    pub const VOLTS: usize = 4;
+    pub const AMPERES: usize = 8;
+    pub const OHMS: usize = 12;
+    pub const FRAMES: usize = 16;
+}
+
+/// Places in a lead's part of the output.
+pub mod output_place {
+    pub const PHASE: usize = 0;
+    pub const REASON: usize = 1;
+    pub const COMMAND: usize = 2;
+    pub const SWITCHES: usize = 3;
+    pub const TEST_VOLTS: usize = 4;
+    pub const SPARE: usize = 6;
+    pub const H108: usize = 8;
+    pub const H109: usize = 16;
+}
+
+/// Output byte 3.
+pub mod switch {
+    pub const D1: u8 = 1 << 0;
+    pub const D2: u8 = 1 << 1;
+    pub const LOCK: u8 = 1 << 2;
+    pub const FRAMES: u8 = 1 << 3;
+}
+
 /// Seen bits.
 pub const SEEN_LIMITS: u8 = 1 << 0;
 pub const SEEN_TIMES: u8 = 1 << 1;
 pub const SEEN_STATUS: u8 = 1 << 2;
-const SEEN_ALL: u8 = SEEN_LIMITS | SEEN_TIMES | SEEN_STATUS;
+pub const SEEN_ALL: u8 = SEEN_LIMITS | SEEN_TIMES | SEEN_STATUS;
 
 /// Contacts closed or pressed, byte 0 of a lead's input.
 pub mod contact {
@@ -59,17 +91,27 @@ pub mod present {
 /// A lead's input holds eight frame records.
 pub const FRAME_RECORDS: usize = 8;
 
-const LAST_PHASE: u8 = 10;
-const REASON_NONE: u8 = 0;
-const LEAST_VOLTS: u16 = 50;
-const AMPERES_OVER_RATED: u16 = 5;
-const SILENCE_LIMIT: u8 = 10;
-const SAFE_VOLTS: u16 = 10;
-const SAFE_AMPERES: u16 = 4;
-const RAMP_DOWN_LIMIT: u32 = 30;
-const CONTACTOR_OPENING_LIMIT: u32 = 40;
-const RAMP_UP: u8 = 2;
-const RAMP_DOWN: u8 = 10;
+pub const LAST_PHASE: u8 = 10;
+pub const REASON_NONE: u8 = 0;
+
+/// Question 21, and the least threshold that is kept.
+pub const LEAST_VOLTS: u16 = 50;
+/// Question 17: "rated + 5".
+pub const AMPERES_OVER_RATED: u16 = 5;
+/// Question 19: "silence below 10".
+pub const SILENCE_LIMIT: u8 = 10;
+/// Question 28, phases 1 to 5; there is no phase 0 in its bracket.
+pub const AGE_LIMITS: [u32; 6] = [0, 100, 20, 150, 50, 100];
+/// The moves 4 to 5 and 9 to 10: "connector volts at most 10".
+pub const SAFE_VOLTS: u16 = 10;
+/// The move 7 to 8: "amperes at most 4, or age 30 or more".
+pub const SAFE_AMPERES: u16 = 4;
+pub const RAMP_DOWN_LIMIT: u32 = 30;
+/// The move 8 to 9: "age 40 or more".
+pub const CONTACTOR_OPENING_LIMIT: u32 = 40;
+/// The wants in 6 and 7: "command + 2", "command − 10".
+pub const RAMP_UP: u8 = 2;
+pub const RAMP_DOWN: u8 = 10;
 
 /// What a lead is built for. The post gives it.
 #[derive(Clone, Copy, Debug)]
@@ -104,53 +146,37 @@ pub struct Condition {
     pub holds: fn(&StateRecord, &Rating) -> bool,
 }
 
+const fn condition(text: &'static str, holds: fn(&StateRecord, &Rating) -> bool) -> Condition {
+    Condition { text, holds }
+}
+
 /// "State a good one": what a lead's record owes to it.
+#[rustfmt::skip]
 pub const GOOD: [Condition; 9] = [
-    Condition {
-        text: "phase 0-10",
-        holds: |record, _| record[place::PHASE] <= LAST_PHASE,
-    },
-    Condition {
-        text: "reason 0 or 11-29",
-        holds: |record, _| matches!(record[place::REASON], REASON_NONE | 11..=29),
-    },
-    Condition {
-        text: "command at most rated",
-        holds: |record, rating| record[place::COMMAND] <= rating.amperes,
-    },
-    Condition {
-        text: "command 0 outside 6 and 7",
-        holds: |record, _| matches!(record[place::PHASE], 6 | 7) || record[place::COMMAND] == 0,
-    },
-    Condition {
-        text: "seen 0-7",
-        holds: |record, _| record[place::SEEN] <= SEEN_ALL,
-    },
-    Condition {
-        text: "threshold 0 or 50 to rated volts",
-        holds: |record, rating| {
-            let threshold = number_at(record, place::THRESHOLD);
-            threshold == 0 || (LEAST_VOLTS..=rating.volts).contains(&threshold)
-        },
-    },
-    Condition {
-        text: "threshold 0 in phase 1",
-        holds: |record, _| record[place::PHASE] != 1 || number_at(record, place::THRESHOLD) == 0,
-    },
-    Condition {
-        text: "threshold not 0 in phases 2-7",
-        holds: |record, _| {
-            !matches!(record[place::PHASE], 2..=7) || number_at(record, place::THRESHOLD) != 0
-        },
-    },
-    Condition {
-        text: "spare bytes 0",
-        holds: |record, _| record[place::SPARE..].iter().all(|&byte| byte == 0),
-    },
+    condition("phase 0-10", |record, _| record[place::PHASE] <= LAST_PHASE),
+    condition("reason 0 or 11-29", |record, _| matches!(record[place::REASON], REASON_NONE | 11..=29)),
+    condition("command at most rated", |record, rating| record[place::COMMAND] <= rating.amperes),
+    condition("command 0 outside 6 and 7", |record, _|
+        matches!(record[place::PHASE], 6 | 7) || record[place::COMMAND] == 0),
+    condition("seen 0-7", |record, _| record[place::SEEN] <= SEEN_ALL),
+    condition("threshold 0 or 50 to rated volts", |record, rating| {
+        let threshold = number_at(record, place::THRESHOLD);
+        threshold == 0 || (LEAST_VOLTS..=rating.volts).contains(&threshold)
+    }),
+    condition("threshold 0 in phase 1", |record, _|
+        record[place::PHASE] != 1 || number_at(record, place::THRESHOLD) == 0),
+    condition("threshold not 0 in phases 2-7", |record, _|
+        !matches!(record[place::PHASE], 2..=7) || number_at(record, place::THRESHOLD) != 0),
+    condition("spare bytes 0", |record, _| record[place::SPARE..].iter().all(|&byte| byte == 0)),
 ];
 
+/// The bytes of a number that begins in this place.
+pub(crate) fn bytes_at<const N: usize>(record: &[u8], at: usize) -> [u8; N] {
+    std::array::from_fn(|offset| record[at + offset])
+}
+
 fn number_at(record: &StateRecord, at: usize) -> u16 {
-    u16::from_le_bytes([record[at], record[at + 1]])
+    u16::from_le_bytes(bytes_at(record, at))
 }
 
 impl Lead {
@@ -202,12 +228,7 @@ impl Lead {
                 byte_1: record[place::TIME_BYTE_1],
                 byte_2: record[place::TIME_BYTE_2],
             },
-            age: u32::from_le_bytes([
-                record[place::AGE],
-                record[place::AGE + 1],
-                record[place::AGE + 2],
-                record[place::AGE + 3],
-            ]),
+            age: u32::from_le_bytes(bytes_at(record, place::AGE)),
         })
     }
 
@@ -282,9 +303,6 @@ pub struct Input<'a> {
 
 type InputRecord = [u8; INPUT_BYTES];
 
-/// Head of an input record: contacts, present, count, zero, three floats.
-const INPUT_HEAD: usize = 16;
-
 impl<'a> Input<'a> {
     pub const NOTHING: Input<'static> = Input {
         contacts: Contacts(0),
@@ -295,28 +313,26 @@ impl<'a> Input<'a> {
 
     /// `None` unless "every spare bit and byte 3 zero, counts at most 8".
     pub fn read(record: &'a InputRecord, rating: &Rating) -> Option<Input<'a>> {
-        let (head, records) = record.split_first_chunk::<INPUT_HEAD>()?;
-        let (records, _) = records.as_chunks::<{ frames::RECORD_BYTES }>();
-        let [contacts, present, count, zero, floats @ ..] = *head;
-        let [v0, v1, v2, v3, a0, a1, a2, a3, r0, r1, r2, r3] = floats;
-
-        if contacts & contact::SPARE != 0 || present & present::SPARE != 0 || zero != 0 {
+        let contacts = record[input_place::CONTACTS];
+        let present = record[input_place::PRESENT];
+        let count = usize::from(record[input_place::COUNT]);
+        let spare = record[input_place::SPARE];
+        if contacts & contact::SPARE != 0 || present & present::SPARE != 0 || spare != 0 {
             return None;
         }
+        let reading = |bit, at| Reading::from_bytes(present & bit != 0, bytes_at(record, at));
         let meter = Meter {
-            volts: Reading::from_bytes(present & present::VOLTS != 0, [v0, v1, v2, v3]),
-            amperes: Reading::from_bytes(present & present::AMPERES != 0, [a0, a1, a2, a3]),
+            volts: reading(present::VOLTS, input_place::VOLTS),
+            amperes: reading(present::AMPERES, input_place::AMPERES),
             cable_resistance: rating.cable_resistance,
         };
+        let (records, _) = record[input_place::FRAMES..].as_chunks();
         Some(Input {
             contacts: Contacts(contacts),
             measured: meter.measure(),
-            insulation_resistance: Reading::from_bytes(
-                present & present::RESISTANCE != 0,
-                [r0, r1, r2, r3],
-            ),
+            insulation_resistance: reading(present::RESISTANCE, input_place::OHMS),
             // A count above 8 finds no such slice.
-            frames: records.get(..usize::from(count))?,
+            frames: records.get(..count)?,
         })
     }
 }
@@ -332,55 +348,48 @@ struct Now<'a> {
     rating: &'a Rating,
 }
 
-/// A question is asked in the phases from `first` to `last`.
-struct Question {
-    number: u8,
-    first: u8,
-    last: u8,
+/// A question is asked in the phases from `first` to `last`. Whether a no is an
+/// urgent stop is said here, never taken from the number.
+pub struct Question {
+    pub number: u8,
+    pub urgent: bool,
+    pub first: u8,
+    pub last: u8,
     yes: fn(&Now) -> bool,
 }
 
-const fn question(number: u8, first: u8, last: u8, yes: fn(&Now) -> bool) -> Question {
-    Question {
-        number,
-        first,
-        last,
-        yes,
-    }
+const URGENT: bool = true;
+const ORDINARY: bool = false;
+
+#[rustfmt::skip]
+const fn question(number: u8, urgent: bool, first: u8, last: u8, yes: fn(&Now) -> bool) -> Question {
+    Question { number, urgent, first, last, yes }
 }
 
 /// In the document's order: "the first 'no' is the stop". In phases 7 and 8
 /// the brackets leave urgent questions only.
 #[rustfmt::skip]
-const QUESTIONS: [Question; 19] = [
-    question(11, 1, 8, |now| !now.input.contacts.emergency_stop()),
-    question(12, 1, 8, |now| now.input.contacts.plug()),
-    question(13, 1, 8, |now| !now.input.contacts.ground_fault()),
-    question(14, 2, 7, |now| now.input.contacts.charge_permission()),
-    question(15, 3, 7, |now| now.input.measured.is_some()),
-    question(16, 5, 7, |now| now.connector_volts_at_most(now.lead.threshold)),
-    question(17, 5, 7, |now| now.amperes_at_most(now.most_amperes())),
-    question(18, 3, 7, |now| now.input.contacts.connector_lock()),
-    question(19, 2, 6, |now| now.lead.silence < SILENCE_LIMIT),
-    question(20, 1, 6, |now| now.lead.car.faults_clear()),
-    question(21, 1, 6, |now| now.voltages_fit()),
-    question(22, 1, 6, |now| now.lead.car.in_park()),
-    question(23, 2, 6, |now| now.lead.car.enabled()),
-    question(24, 1, 6, |now| !now.lead.car.stop_request()),
-    question(25, 6, 6, |now| !now.lead.car.contactor_open()),
-    question(26, 1, 6, |now| !now.input.contacts.stop_button()),
-    question(27, 3, 3, |now| insulation_holds(now.input.insulation_resistance, now.lead.threshold)),
-    question(28, 1, 5, |now| now.lead.age < AGE_LIMITS[usize::from(now.lead.phase)]),
-    question(29, 6, 6, |now| Ticks(now.lead.age) < now.lead.charging_time.ticks()),
+pub const QUESTIONS: [Question; 19] = [
+    question(11, URGENT, 1, 8, |now| !now.input.contacts.emergency_stop()),
+    question(12, URGENT, 1, 8, |now| now.input.contacts.plug()),
+    question(13, URGENT, 1, 8, |now| !now.input.contacts.ground_fault()),
+    question(14, URGENT, 2, 7, |now| now.input.contacts.charge_permission()),
+    question(15, URGENT, 3, 7, |now| now.input.measured.is_some()),
+    question(16, URGENT, 5, 7, |now| now.connector_volts_at_most(now.lead.threshold)),
+    question(17, URGENT, 5, 7, |now| now.amperes_at_most(now.most_amperes())),
+    question(18, URGENT, 3, 7, |now| now.input.contacts.connector_lock()),
+    question(19, ORDINARY, 2, 6, |now| now.lead.silence < SILENCE_LIMIT),
+    question(20, ORDINARY, 1, 6, |now| now.lead.car.faults_clear()),
+    question(21, ORDINARY, 1, 6, |now| now.voltages_fit()),
+    question(22, ORDINARY, 1, 6, |now| now.lead.car.in_park()),
+    question(23, ORDINARY, 2, 6, |now| now.lead.car.enabled()),
+    question(24, ORDINARY, 1, 6, |now| !now.lead.car.stop_request()),
+    question(25, ORDINARY, 6, 6, |now| !now.lead.car.contactor_open()),
+    question(26, ORDINARY, 1, 6, |now| !now.input.contacts.stop_button()),
+    question(27, ORDINARY, 3, 3, |now| insulation_holds(now.input.insulation_resistance, now.lead.threshold)),
+    question(28, ORDINARY, 1, 5, |now| now.lead.age < AGE_LIMITS[usize::from(now.lead.phase)]),
+    question(29, ORDINARY, 6, 6, |now| Ticks(now.lead.age) < now.lead.charging_time.ticks()),
 ];
-
-/// "11–18 are urgent."
-fn urgent(number: u8) -> bool {
-    matches!(number, 11..=18)
-}
-
-/// Question 28, phases 1 to 5; there is no phase 0 in its bracket.
-const AGE_LIMITS: [u32; 6] = [0, 100, 20, 150, 50, 100];
 
 impl Now<'_> {
     fn connector_volts_at_most(&self, volts: u16) -> bool {
@@ -416,13 +425,12 @@ impl Now<'_> {
             && (LEAST_VOLTS..=threshold).contains(&self.lead.car.target_voltage)
     }
 
-    fn first_no(&self) -> Option<u8> {
+    fn first_no(&self) -> Option<&'static Question> {
         let phase = self.lead.phase;
         QUESTIONS
             .iter()
             .filter(|question| (question.first..=question.last).contains(&phase))
             .find(|question| !(question.yes)(self))
-            .map(|question| question.number)
     }
 
     fn next_phase(&self) -> Option<u8> {
@@ -540,12 +548,11 @@ impl Lead {
         };
         let from = self.phase;
         if let Some(question) = now.first_no() {
-            let urgent = urgent(question);
             return Decision::Stopped {
-                question,
-                urgent,
+                question: question.number,
+                urgent: question.urgent,
                 from,
-                to: stop_leads_to(from, urgent),
+                to: stop_leads_to(from, question.urgent),
             };
         }
         match now.next_phase() {
@@ -612,26 +619,21 @@ impl Lead {
 // ---------------------------------------------------------------------------
 // The lead's output
 
-/// Output byte 3.
-const D1: u8 = 1 << 0;
-const D2: u8 = 1 << 1;
-const LOCK: u8 = 1 << 2;
-const FRAMES: u8 = 1 << 3;
-
 impl Lead {
     /// "All show the state after the tick"; the lock contact and the reading
     /// are those of the tick's input.
     pub fn output(&self, input: &Input, rating: &Rating, output: &mut [u8; OUTPUT_BYTES]) {
         output.fill(0);
-        output[0] = self.phase;
-        output[1] = self.reason;
-        output[2] = self.command;
-        output[3] = self.lines();
-        output[4..6].copy_from_slice(&self.test_volts().to_le_bytes());
+        output[output_place::PHASE] = self.phase;
+        output[output_place::REASON] = self.reason;
+        output[output_place::COMMAND] = self.command;
+        output[output_place::SWITCHES] = self.switches();
+        output[output_place::TEST_VOLTS..output_place::SPARE]
+            .copy_from_slice(&self.test_volts().to_le_bytes());
         if self.sends_frames() {
             let limits = frames::charger_limits(rating.volts, rating.amperes, self.threshold);
-            output[8..16].copy_from_slice(&limits);
-            output[16..24].copy_from_slice(&self.charger_status(input));
+            output[output_place::H108..output_place::H109].copy_from_slice(&limits);
+            output[output_place::H109..].copy_from_slice(&self.charger_status(input));
         }
     }
 
@@ -639,21 +641,21 @@ impl Lead {
         matches!(self.phase, 1..=9)
     }
 
-    fn lines(&self) -> u8 {
-        let mut lines = 0;
+    fn switches(&self) -> u8 {
+        let mut switches = 0;
         if matches!(self.phase, 1..=8) {
-            lines |= D1;
+            switches |= switch::D1;
         }
         if matches!(self.phase, 5..=8) {
-            lines |= D2;
+            switches |= switch::D2;
         }
         if matches!(self.phase, 2..=9) {
-            lines |= LOCK;
+            switches |= switch::LOCK;
         }
         if self.sends_frames() {
-            lines |= FRAMES;
+            switches |= switch::FRAMES;
         }
-        lines
+        switches
     }
 
     fn test_volts(&self) -> u16 {

@@ -11,7 +11,7 @@
 //! - `post`: the two calls, setup and tick
 //! - `bench`: the language of the bench program
 //!
-//! `inputs` puts lead inputs together by name, for tests and test rows.
+//! `inputs` puts lead inputs together by name, for tests and test programs.
 
 pub mod bench;
 pub mod frames;
@@ -21,5 +21,7 @@ pub mod post;
 pub mod readings;
 pub mod sharing;
 
+// A row of a table stays on one line.
 #[cfg(test)]
+#[rustfmt::skip]
 mod tests;

@@ -1,25 +1,22 @@
 //! The post's two calls, on numbers and byte slices of any length.
 
-use crate::lead::{self, Input, Lead, Rating};
+use crate::lead::{self, bytes_at, Input, Lead, Rating};
 use crate::readings::cable_resistance_allowed;
 use crate::sharing::{level, MOST_LEADS};
 
-/// Leads; rated amperes; rated volts, 2; resistance as float, 4.
+/// Places in the head of the state.
+pub mod head_place {
+    pub const LEADS: usize = 0;
+    pub const AMPERES: usize = 1;
+    pub const VOLTS: usize = 2;
+    pub const RESISTANCE: usize = 4;
+}
+
+/// The head before the leads' states.
 pub const HEAD_BYTES: usize = 8;
 
 /// The allowance before the leads' inputs.
 pub const ALLOWANCE_BYTES: usize = 4;
-
-pub const DONE: u32 = 0;
-pub const REFUSED_LEADS: u32 = 1;
-pub const REFUSED_RATED_VOLTS: u32 = 2;
-pub const REFUSED_RATED_AMPERES: u32 = 3;
-pub const REFUSED_RESISTANCE: u32 = 4;
-pub const REFUSED_SETUP_LENGTH: u32 = 5;
-pub const REFUSED_STATE: u32 = 6;
-pub const REFUSED_INPUT_LENGTH: u32 = 7;
-pub const REFUSED_OUTPUT_LENGTH: u32 = 8;
-pub const REFUSED_INPUT: u32 = 9;
 
 pub const fn state_bytes(leads: usize) -> usize {
     HEAD_BYTES + lead::STATE_BYTES * leads
@@ -33,22 +30,88 @@ pub const fn output_bytes(leads: usize) -> usize {
     lead::OUTPUT_BYTES * leads
 }
 
-/// The first four questions of setup, in their order.
-fn ask_head(leads: u32, rated_volts: u32, rated_amperes: u32, resistance: u32) -> Result<(), u32> {
-    if !(1..=MOST_LEADS as u32).contains(&leads) {
-        return Err(REFUSED_LEADS);
+pub const DONE: u32 = 0;
+pub const REFUSED_LEADS: u32 = 1;
+pub const REFUSED_RATED_VOLTS: u32 = 2;
+pub const REFUSED_RATED_AMPERES: u32 = 3;
+pub const REFUSED_RESISTANCE: u32 = 4;
+pub const REFUSED_SETUP_LENGTH: u32 = 5;
+pub const REFUSED_STATE: u32 = 6;
+pub const REFUSED_INPUT_LENGTH: u32 = 7;
+pub const REFUSED_OUTPUT_LENGTH: u32 = 8;
+pub const REFUSED_INPUT: u32 = 9;
+
+/// The refusals of a table of questions, in the order of asking.
+const fn refusals<Question, const N: usize>(questions: &[(u32, Question); N]) -> [u32; N] {
+    let mut refusals = [DONE; N];
+    let mut at = 0;
+    while at < N {
+        refusals[at] = questions[at].0;
+        at += 1;
     }
-    if !(50..=500).contains(&rated_volts) {
-        return Err(REFUSED_RATED_VOLTS);
-    }
-    if !(1..=200).contains(&rated_amperes) {
-        return Err(REFUSED_RATED_AMPERES);
-    }
-    if !cable_resistance_allowed(f32::from_bits(resistance)) {
-        return Err(REFUSED_RESISTANCE);
-    }
-    Ok(())
+    refusals
 }
+
+// ---------------------------------------------------------------------------
+// Setup
+
+/// "Rated volts 50–500? Rated amperes 1–200?"
+pub const LEAST_RATED_VOLTS: u32 = 50;
+pub const MOST_RATED_VOLTS: u32 = 500;
+pub const LEAST_RATED_AMPERES: u32 = 1;
+pub const MOST_RATED_AMPERES: u32 = 200;
+
+/// What setup is given; `resistance` is the bits of a float.
+struct Given {
+    leads: u32,
+    volts: u32,
+    amperes: u32,
+    resistance: u32,
+    state_length: usize,
+}
+
+/// In the order of asking: the first no is the refusal, so that a question may
+/// rest on those before it.
+#[rustfmt::skip]
+const SETUP_QUESTIONS: [(u32, fn(&Given) -> bool); 5] = [
+    (REFUSED_LEADS, |given| (1..=MOST_LEADS as u32).contains(&given.leads)),
+    (REFUSED_RATED_VOLTS, |given| (LEAST_RATED_VOLTS..=MOST_RATED_VOLTS).contains(&given.volts)),
+    (REFUSED_RATED_AMPERES, |given| (LEAST_RATED_AMPERES..=MOST_RATED_AMPERES).contains(&given.amperes)),
+    (REFUSED_RESISTANCE, |given| cable_resistance_allowed(f32::from_bits(given.resistance))),
+    (REFUSED_SETUP_LENGTH, |given| given.state_length == state_bytes(given.leads as usize)),
+];
+
+pub const SETUP_REFUSALS: [u32; 5] = refusals(&SETUP_QUESTIONS);
+
+impl Given {
+    fn refusal(&self) -> Option<u32> {
+        let no = SETUP_QUESTIONS.iter().find(|(_, yes)| !yes(self));
+        no.map(|&(refusal, _)| refusal)
+    }
+}
+
+/// Writes a fresh state. `resistance` is the bits of a float.
+pub fn setup(leads: u32, volts: u32, amperes: u32, resistance: u32, state: &mut [u8]) -> u32 {
+    let given = Given {
+        leads,
+        volts,
+        amperes,
+        resistance,
+        state_length: state.len(),
+    };
+    if let Some(refusal) = given.refusal() {
+        return refusal;
+    }
+    state.fill(0);
+    state[head_place::LEADS] = leads as u8;
+    state[head_place::AMPERES] = amperes as u8;
+    state[head_place::VOLTS..head_place::RESISTANCE].copy_from_slice(&(volts as u16).to_le_bytes());
+    state[head_place::RESISTANCE..HEAD_BYTES].copy_from_slice(&resistance.to_le_bytes());
+    DONE
+}
+
+// ---------------------------------------------------------------------------
+// Tick
 
 /// A head as setup takes it.
 #[derive(Clone, Copy, Debug)]
@@ -58,104 +121,117 @@ pub struct Head {
 }
 
 impl Head {
+    /// Before a state is read.
+    const NONE: Head = Head {
+        leads: 0,
+        rating: Rating {
+            volts: 0,
+            amperes: 0,
+            cable_resistance: 0.0,
+        },
+    };
+
     pub fn read(bytes: &[u8; HEAD_BYTES]) -> Option<Head> {
-        let [leads, amperes, v0, v1, r0, r1, r2, r3] = *bytes;
-        let volts = u16::from_le_bytes([v0, v1]);
-        let resistance = u32::from_le_bytes([r0, r1, r2, r3]);
-        ask_head(leads.into(), volts.into(), amperes.into(), resistance).ok()?;
-        Some(Head {
-            leads: leads.into(),
-            rating: Rating {
-                volts,
-                amperes,
-                cable_resistance: f32::from_bits(resistance),
-            },
-        })
+        let leads = usize::from(bytes[head_place::LEADS]);
+        let amperes = bytes[head_place::AMPERES];
+        let volts = u16::from_le_bytes(bytes_at(bytes, head_place::VOLTS));
+        let resistance = u32::from_le_bytes(bytes_at(bytes, head_place::RESISTANCE));
+        let given = Given {
+            leads: leads as u32,
+            volts: volts.into(),
+            amperes: amperes.into(),
+            resistance,
+            // The head says how long its state must be, not how long it is.
+            state_length: state_bytes(leads),
+        };
+        let rating = Rating {
+            volts,
+            amperes,
+            cable_resistance: f32::from_bits(resistance),
+        };
+        given.refusal().is_none().then_some(Head { leads, rating })
     }
 }
 
-/// Writes a fresh state. `resistance` is the bits of a float.
-pub fn setup(
-    leads: u32,
-    rated_volts: u32,
-    rated_amperes: u32,
-    resistance: u32,
-    state: &mut [u8],
-) -> u32 {
-    if let Err(number) = ask_head(leads, rated_volts, rated_amperes, resistance) {
-        return number;
-    }
-    if state.len() != state_bytes(leads as usize) {
-        return REFUSED_SETUP_LENGTH;
-    }
-    state.fill(0);
-    state[0] = leads as u8;
-    state[1] = rated_amperes as u8;
-    state[2..4].copy_from_slice(&(rated_volts as u16).to_le_bytes());
-    state[4..8].copy_from_slice(&resistance.to_le_bytes());
-    DONE
+/// What tick is given, and what its questions have read of it.
+struct Call<'a> {
+    state: &'a mut [u8],
+    input: &'a [u8],
+    output: &'a mut [u8],
+    head: Head,
+    leads: [Lead; MOST_LEADS],
+    inputs: [Input<'a>; MOST_LEADS],
 }
+
+/// In the order of asking, as in setup.
+#[rustfmt::skip]
+const TICK_QUESTIONS: [(u32, fn(&mut Call) -> bool); 4] = [
+    (REFUSED_STATE, |call| call.read_state().is_some()),
+    (REFUSED_INPUT_LENGTH, |call| call.input.len() == input_bytes(call.head.leads)),
+    (REFUSED_OUTPUT_LENGTH, |call| call.output.len() == output_bytes(call.head.leads)),
+    (REFUSED_INPUT, |call| call.read_inputs().is_some()),
+];
+
+pub const TICK_REFUSALS: [u32; 4] = refusals(&TICK_QUESTIONS);
 
 /// One tick of all leads. A refusal changes no byte of state or output.
 pub fn tick(state: &mut [u8], input: &[u8], output: &mut [u8]) -> u32 {
-    match ask_and_tick(state, input, output) {
-        Ok(()) => DONE,
-        Err(number) => number,
+    let mut call = Call {
+        state,
+        input,
+        output,
+        head: Head::NONE,
+        leads: [Lead::FRESH; MOST_LEADS],
+        inputs: [Input::NOTHING; MOST_LEADS],
+    };
+    if let Some((refusal, _)) = TICK_QUESTIONS.iter().find(|(_, yes)| !yes(&mut call)) {
+        return *refusal;
     }
+    call.carry_out();
+    DONE
 }
 
-fn ask_and_tick(state: &mut [u8], input: &[u8], output: &mut [u8]) -> Result<(), u32> {
-    // State a good one? (6)
-    let (head, records) = state
-        .split_first_chunk_mut::<HEAD_BYTES>()
-        .ok_or(REFUSED_STATE)?;
-    let Head {
-        leads: count,
-        rating,
-    } = Head::read(head).ok_or(REFUSED_STATE)?;
-    if records.len() != lead::STATE_BYTES * count {
-        return Err(REFUSED_STATE);
-    }
-    let (records, _) = records.as_chunks_mut::<{ lead::STATE_BYTES }>();
-    let mut leads = [Lead::FRESH; MOST_LEADS];
-    for (lead, record) in leads.iter_mut().zip(records.iter()) {
-        *lead = Lead::read(record, &rating).ok_or(REFUSED_STATE)?;
+impl Call<'_> {
+    /// `None` if the state is not a good one.
+    fn read_state(&mut self) -> Option<()> {
+        let (head, records) = self.state.split_first_chunk()?;
+        self.head = Head::read(head)?;
+        if self.state.len() != state_bytes(self.head.leads) {
+            return None;
+        }
+        for (lead, record) in self.leads.iter_mut().zip(records.as_chunks().0) {
+            *lead = Lead::read(record, &self.head.rating)?;
+        }
+        Some(())
     }
 
-    // Input exactly 4 + 104 × leads? (7)
-    if input.len() != input_bytes(count) {
-        return Err(REFUSED_INPUT_LENGTH);
-    }
-    let (allowance, input_records) = input
-        .split_first_chunk::<ALLOWANCE_BYTES>()
-        .ok_or(REFUSED_INPUT_LENGTH)?;
-    let (input_records, _) = input_records.as_chunks::<{ lead::INPUT_BYTES }>();
-
-    // Output exactly 24 × leads? (8)
-    if output.len() != output_bytes(count) {
-        return Err(REFUSED_OUTPUT_LENGTH);
-    }
-    let (outputs, _) = output.as_chunks_mut::<{ lead::OUTPUT_BYTES }>();
-
-    // Every spare bit and byte 3 zero, counts at most 8? (9)
-    let mut inputs = [Input::NOTHING; MOST_LEADS];
-    for (input, record) in inputs.iter_mut().zip(input_records) {
-        *input = Input::read(record, &rating).ok_or(REFUSED_INPUT)?;
+    /// `None` unless "every spare bit and byte 3 zero, counts at most 8".
+    fn read_inputs(&mut self) -> Option<()> {
+        let (records, _) = self.input[ALLOWANCE_BYTES..].as_chunks();
+        for (input, record) in self.inputs.iter_mut().zip(records) {
+            *input = Input::read(record, &self.head.rating)?;
+        }
+        Some(())
     }
 
-    // Nothing is written above, nothing refused below. A lead that is not
-    // there wants 0.
-    let mut wants = [0; MOST_LEADS];
-    for ((lead, input), want) in leads.iter_mut().zip(&inputs).zip(&mut wants).take(count) {
-        lead.advance(input, &rating);
-        *want = lead.want(&rating);
+    /// Nothing is written before it, nothing refused after it has begun.
+    fn carry_out(&mut self) {
+        let rating = &self.head.rating;
+        let leads = &mut self.leads[..self.head.leads];
+        // A lead that is not there wants 0.
+        let mut wants = [0; MOST_LEADS];
+        for ((lead, input), want) in leads.iter_mut().zip(&self.inputs).zip(&mut wants) {
+            lead.advance(input, rating);
+            *want = lead.want(rating);
+        }
+        let level = level(wants, u32::from_le_bytes(bytes_at(self.input, 0)));
+        let records = self.state[HEAD_BYTES..].as_chunks_mut().0;
+        let outputs = self.output.as_chunks_mut().0;
+        let written = records.iter_mut().zip(outputs);
+        for ((lead, input), (record, output)) in leads.iter_mut().zip(&self.inputs).zip(written) {
+            lead.take(level, rating);
+            lead.write(record);
+            lead.output(input, rating, output);
+        }
     }
-    let level = level(wants, u32::from_le_bytes(*allowance));
-    for (((lead, input), record), output) in leads.iter_mut().zip(&inputs).zip(records).zip(outputs)
-    {
-        lead.take(level, &rating);
-        lead.write(record);
-        lead.output(input, &rating, output);
-    }
-    Ok(())
 }

@@ -100,112 +100,83 @@ pub fn insulation_holds(insulation: Reading, threshold: u16) -> bool {
 mod tests {
     use super::*;
 
-    fn measure(volts: f32, amperes: f32, cable_resistance: f32) -> Option<Measured> {
-        Meter {
-            volts: Reading::Value(volts),
-            amperes: Reading::Value(amperes),
+    fn measure(volts: f32, amperes: f32, cable_resistance: f32) -> Option<(u16, u16)> {
+        let (volts, amperes) = (Reading::Value(volts), Reading::Value(amperes));
+        let meter = Meter {
+            volts,
+            amperes,
             cable_resistance,
+        };
+        let measured = meter.measure()?;
+        Some((measured.connector_volts, measured.amperes))
+    }
+
+    #[test]
+    #[rustfmt::skip]
+    fn whole_numbers() {
+        let least = f32::from_bits(1);
+        let above_10 = 10.0f32.next_up();
+        let last_place = above_10 - 10.0;
+        for (volts, amperes, resistance, expected) in [
+            (400.25, 0.0, 0.0, (401, 0)),
+            (400.0, 100.0, 0.5, (350, 100)),
+            (-0.0, 0.0, 0.0, (0, 0)), (-0.0, -0.0, -0.0, (0, 0)),
+            (1000.0, 400.0, 0.0, (1000, 400)),
+            // Good looks at the meter's volts: a negative difference is 0, not bad.
+            (1.0, 400.0, 1.0, (0, 400)),
+            // 0.1 × 3 is rounded up to 0.3; without that rounding a rest above 0 would remain.
+            (0.3, 3.0, 0.1, (0, 3)),
+            // A rest of a tenth of the last place above 10 is rounded away, half of it to the even side, 10.
+            (above_10, 1.0, 0.9 * last_place, (10, 1)), (above_10, 1.0, 0.1 * last_place, (11, 1)),
+            (above_10, 1.0, 0.5 * last_place, (10, 1)),
+            // The raw amperes go into the product: 100.5 A, not 101 A.
+            (400.0, 100.5, 1.0, (300, 101)),
+            // Subnormals are kept: the least one rounds up to 1.
+            (least, 0.0, 0.0, (1, 0)), (least, 1.0, least, (0, 1)),
+        ] {
+            assert_eq!(measure(volts, amperes, resistance), Some(expected), "{volts} V {amperes} A");
         }
-        .measure()
-    }
-
-    fn connector(volts: f32, amperes: f32, cable_resistance: f32) -> u16 {
-        measure(volts, amperes, cable_resistance)
-            .unwrap()
-            .connector_volts
-    }
-
-    #[test]
-    fn starred_volts() {
-        assert_eq!(connector(400.25, 0.0, 0.0), 401);
-        assert_eq!(connector(400.25, 100.0, 0.0), 401);
-        assert_eq!(connector(400.0, 100.0, 0.5), 350);
-        assert_eq!(connector(-0.0, 0.0, 0.0), 0);
-        assert_eq!(connector(-0.0, -0.0, -0.0), 0);
-        assert_eq!(measure(0.0, -0.0, 0.0).unwrap().amperes, 0);
-    }
-
-    #[test]
-    fn edges_of_good() {
-        assert!(measure(1000.0, 400.0, 0.0).is_some());
-        assert!(measure(1000.0f32.next_up(), 400.0, 0.0).is_none());
-        assert!(measure(1000.0, 400.0f32.next_up(), 0.0).is_none());
-        assert!(measure(-f32::from_bits(1), 0.0, 0.0).is_none());
-        assert!(measure(0.0, -f32::from_bits(1), 0.0).is_none());
-        assert!(measure(f32::NAN, 0.0, 0.0).is_none());
-        assert!(measure(0.0, f32::NAN, 0.0).is_none());
-        assert!(measure(f32::INFINITY, 0.0, 0.0).is_none());
-        assert!(measure(0.0, f32::NEG_INFINITY, 0.0).is_none());
-        // Good looks at the meter's volts: a negative difference is 0, not bad.
-        assert_eq!(connector(1.0, 400.0, 1.0), 0);
+        for (volts, amperes) in [
+            (1000.0f32.next_up(), 0.0), (-least, 0.0), (f32::NAN, 0.0), (f32::INFINITY, 0.0), (f32::NEG_INFINITY, 0.0),
+            (0.0, 400.0f32.next_up()), (0.0, -least), (0.0, f32::NAN), (0.0, f32::INFINITY), (0.0, f32::NEG_INFINITY),
+        ] {
+            assert_eq!(measure(volts, amperes, 0.0), None, "{volts} V {amperes} A");
+        }
     }
 
     #[test]
     fn both_must_be_present() {
-        let value = Reading::Value(1.0);
-        for (volts, amperes) in [
-            (Reading::Missing, value),
-            (value, Reading::Missing),
-            (Reading::Missing, Reading::Missing),
-        ] {
+        let value = |present| Reading::from_bytes(present, 1.0f32.to_le_bytes());
+        for (volts, amperes) in [(true, true), (true, false), (false, true), (false, false)] {
             let meter = Meter {
-                volts,
-                amperes,
+                volts: value(volts),
+                amperes: value(amperes),
                 cable_resistance: 0.0,
             };
-            assert_eq!(meter.measure(), None);
+            assert_eq!(meter.measure().is_some(), volts && amperes);
         }
-    }
-
-    #[test]
-    fn a_missing_reading_is_not_looked_at() {
+        // The bytes of a missing one are not looked at.
         let nan = f32::NAN.to_le_bytes();
         assert!(matches!(Reading::from_bytes(false, nan), Reading::Missing));
         assert!(matches!(Reading::from_bytes(true, nan), Reading::Value(v) if v.is_nan()));
     }
 
     #[test]
-    fn rounded_twice_and_never_fused() {
-        // 0.1 × 3 is rounded up to 0.3; without that rounding a rest above 0
-        // would remain.
-        assert_eq!(0.1f32 * 3.0, 0.3);
-        assert_eq!(connector(0.3, 3.0, 0.1), 0);
-        // A rest of a tenth of the last place above 10 is rounded away.
-        let last_place = 10.0f32.next_up() - 10.0;
-        assert_eq!(connector(10.0f32.next_up(), 1.0, 0.9 * last_place), 10);
-        assert_eq!(connector(10.0f32.next_up(), 1.0, 0.1 * last_place), 11);
-        // Half a last place: to the even side, which is 10.
-        assert_eq!(connector(10.0f32.next_up(), 1.0, 0.5 * last_place), 10);
-        // The raw amperes go into the product: 100.5 A, not 101 A.
-        assert_eq!(connector(400.0, 100.5, 1.0), 300);
-        // Subnormals are kept: the least one rounds up to 1.
-        assert_eq!(connector(f32::from_bits(1), 0.0, 0.0), 1);
-        assert_eq!(connector(f32::from_bits(1), 1.0, f32::from_bits(1)), 0);
-    }
-
-    #[test]
-    fn cable_resistances() {
-        assert!(cable_resistance_allowed(0.0));
-        assert!(cable_resistance_allowed(-0.0));
-        assert!(cable_resistance_allowed(1.0));
-        assert!(!cable_resistance_allowed(1.0f32.next_up()));
-        assert!(!cable_resistance_allowed(-f32::from_bits(1)));
-        assert!(!cable_resistance_allowed(f32::NAN));
-        assert!(!cable_resistance_allowed(f32::INFINITY));
-    }
-
-    #[test]
-    fn starred_insulation() {
-        assert!(insulation_holds(Reading::Value(40_000.0), 400));
-        assert!(!insulation_holds(Reading::Value(39_999.0), 400));
-        assert!(!insulation_holds(
-            Reading::Value(40_000.0f32.next_down()),
-            400
-        ));
-        assert!(!insulation_holds(Reading::Value(f32::NAN), 400));
-        assert!(insulation_holds(Reading::Value(f32::INFINITY), 400));
-        assert!(!insulation_holds(Reading::Value(f32::NEG_INFINITY), 400));
-        assert!(!insulation_holds(Reading::Value(-0.0), 400));
+    fn resistances() {
+        for ohms in [0.0, -0.0, 0.5, 1.0] {
+            assert!(cable_resistance_allowed(ohms));
+        }
+        let below = -f32::from_bits(1);
+        for ohms in [1.0f32.next_up(), below, f32::NAN, f32::INFINITY] {
+            assert!(!cable_resistance_allowed(ohms));
+        }
+        for ohms in [40_000.0, 40_001.0, f32::INFINITY] {
+            assert!(insulation_holds(Reading::Value(ohms), 400));
+        }
+        let below = 40_000.0f32.next_down();
+        for ohms in [39_999.0, below, 0.0, -0.0, f32::NAN, f32::NEG_INFINITY] {
+            assert!(!insulation_holds(Reading::Value(ohms), 400));
+        }
         assert!(insulation_holds(Reading::Missing, 400));
     }
 }

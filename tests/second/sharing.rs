@@ -29,56 +29,33 @@ mod tests {
     use super::*;
 
     #[test]
-    fn starred_levels() {
-        assert_eq!(level([10_000, 60_000, 0, 0], 50_000), 40_000);
-        assert_eq!(level([60_000, 60_000, 0, 0], 50_001), 25_000);
-        assert_eq!(level([0, 0, 0, 0], 7), 7);
-        assert_eq!(level([100, 100, 100, 0], 200), 66);
-        assert_eq!(level([0, 0, 0, 0], 0), 0);
-        assert_eq!(level([100, 0, 3, 60_000], 0), 0);
-        // 25 and 100 A at 400 V.
-        let level = level([10_000, 60_000, 0, 0], 50_000);
-        assert_eq!(10_000.min(level) / 400, 25);
-        assert_eq!(60_000.min(level) / 400, 100);
-    }
-
-    #[test]
-    fn wants_that_fit() {
-        assert_eq!(level([1, 2, 3, 4], 10), 10);
-        assert_eq!(level([1, 2, 3, 4], 9), 3);
-        assert_eq!(level([u32::MAX; 4], u32::MAX), u32::MAX / 4);
-        assert_eq!(level([u32::MAX, 0, 0, 0], u32::MAX), u32::MAX);
-    }
-
-    /// The document's sentence, tried number by number.
-    fn by_trial(wants: [u32; MOST_LEADS], allowance: u32) -> u32 {
-        let fits = |level: u32| {
-            wants
-                .iter()
-                .map(|&want| u64::from(want.min(level)))
-                .sum::<u64>()
-                <= u64::from(allowance)
-        };
-        (0..=allowance).rev().find(|&level| fits(level)).unwrap()
+    fn levels() {
+        for (wants, allowance, expected) in [
+            ([10_000, 60_000, 0, 0], 50_000, 40_000),
+            ([60_000, 60_000, 0, 0], 50_001, 25_000),
+            ([0, 0, 0, 0], 7, 7),
+            ([100, 100, 100, 0], 200, 66),
+            ([0, 0, 0, 0], 0, 0),
+            ([100, 0, 3, 60_000], 0, 0),
+            ([1, 2, 3, 4], 10, 10),
+            ([1, 2, 3, 4], 9, 3),
+            ([u32::MAX; 4], u32::MAX, u32::MAX / 4),
+            ([u32::MAX, 0, 0, 0], u32::MAX, u32::MAX),
+        ] {
+            assert_eq!(level(wants, allowance), expected);
+        }
     }
 
     #[test]
     fn as_the_sentence_says() {
-        let some = [0, 1, 2, 3, 5, 8, 13];
-        for a in some {
-            for b in some {
-                for c in some {
-                    for d in some {
-                        for allowance in 0..32 {
-                            let wants = [a, b, c, d];
-                            assert_eq!(
-                                level(wants, allowance),
-                                by_trial(wants, allowance),
-                                "{wants:?} {allowance}"
-                            );
-                        }
-                    }
-                }
+        const SOME: [u32; 7] = [0, 1, 2, 3, 5, 8, 13];
+        for mix in 0..SOME.len().pow(4) {
+            let wants = [1, 7, 49, 343].map(|place| SOME[mix / place % SOME.len()]);
+            for allowance in 0..32 {
+                // The document's sentence, tried number by number.
+                let sum = |level: u32| wants.map(|want| want.min(level)).iter().sum::<u32>();
+                let largest = (0..=allowance).rfind(|&level| sum(level) <= allowance);
+                assert_eq!(Some(level(wants, allowance)), largest, "{wants:?}");
             }
         }
     }

@@ -1,8 +1,7 @@
-//! Tests through the two calls and the bench language. Tests of a single layer
-//! stand beside it.
+//! Tests through the two calls and the bench language. Tests of a single layer stand beside it.
+//! Most are tables of cases: what is done, what comes out.
 
 mod bench;
-mod frames;
 mod output;
 mod phases;
 mod questions;
@@ -12,52 +11,38 @@ mod sharing;
 
 use crate::frames::{CONTACTOR_OPEN, ENABLED};
 use crate::inputs::LeadInput;
-use crate::lead::{contact, place, INPUT_BYTES, OUTPUT_BYTES, STATE_BYTES};
-use crate::post::{self, DONE, HEAD_BYTES};
+use crate::lead::contact::{
+    CHARGE_PERMISSION, CONNECTOR_LOCK, EMERGENCY_STOP, GROUND_FAULT, PLUG, START_BUTTON, STOP_BUTTON,
+};
+use crate::lead::place::*;
+use crate::lead::{input_place, output_place, present, INPUT_BYTES, OUTPUT_BYTES, STATE_BYTES};
+use crate::post::{
+    head_place, input_bytes, output_bytes, setup, state_bytes, tick, ALLOWANCE_BYTES, DONE, HEAD_BYTES,
+};
 
 /// An allowance that is never short.
 const AMPLE: u32 = u32::MAX;
 
-const CLOSED: u8 = contact::PLUG | contact::CHARGE_PERMISSION | contact::CONNECTOR_LOCK;
+const CLOSED: u8 = PLUG | CHARGE_PERMISSION | CONNECTOR_LOCK;
 
-/// A post with its state, ticked through the calls alone.
-struct Post {
-    state: Vec<u8>,
-    leads: usize,
+/// A state that setup wrote over other bytes, without cable resistance.
+fn fresh(leads: usize, volts: u32, amperes: u32) -> Vec<u8> {
+    let mut state = vec![0xEE; state_bytes(leads)];
+    assert_eq!(setup(leads as u32, volts, amperes, 0, &mut state), DONE);
+    state
 }
 
-impl Post {
-    fn new(leads: usize, volts: u32, amperes: u32, resistance: f32) -> Post {
-        let mut state = vec![0xEE; post::state_bytes(leads)];
-        let number = post::setup(
-            leads as u32,
-            volts,
-            amperes,
-            resistance.to_bits(),
-            &mut state,
-        );
-        assert_eq!(number, DONE);
-        Post { state, leads }
-    }
-
-    fn tick(&mut self, allowance: u32, inputs: &[LeadInput]) -> Vec<[u8; OUTPUT_BYTES]> {
-        let mut input = allowance.to_le_bytes().to_vec();
-        for lead in inputs {
-            input.extend_from_slice(&lead.0);
-        }
-        assert_eq!(input.len(), 4 + INPUT_BYTES * self.leads);
-        let mut output = vec![0xEE; post::output_bytes(self.leads)];
-        assert_eq!(post::tick(&mut self.state, &input, &mut output), DONE);
-        output.as_chunks().0.to_vec()
-    }
-
-    fn lead(&self, lead: usize) -> [u8; STATE_BYTES] {
-        self.state[HEAD_BYTES..].as_chunks().0[lead]
-    }
+/// A tick that is done; what each lead shows.
+fn done(state: &mut [u8], allowance: u32, inputs: &[LeadInput]) -> Vec<[u8; OUTPUT_BYTES]> {
+    let mut input = allowance.to_le_bytes().to_vec();
+    inputs.iter().for_each(|lead| input.extend(lead.0));
+    let mut output = vec![0xEE; output_bytes(inputs.len())];
+    assert_eq!(tick(state, &input, &mut output), DONE);
+    output.as_chunks().0.to_vec()
 }
 
-/// One lead of a post of 500 V, 125 A, with a state handed in and an input,
-/// such that the lead stays in its phase. Tests change one thing at a time.
+/// One lead of a post of 500 V, 125 A, with a state handed in and an input such that the lead stays
+/// in its phase. Tests change one thing at a time.
 #[derive(Clone, Copy)]
 struct Case {
     state: [u8; STATE_BYTES],
@@ -66,91 +51,61 @@ struct Case {
     allowance: u32,
 }
 
-const THRESHOLD: u16 = 400;
+type Change = fn(Case) -> Case;
+
 const TARGET: u16 = 390;
-const REQUEST: u8 = 100;
+const ASKED: u8 = 100;
 
 impl Case {
     fn new(phase: u8) -> Case {
-        let mut state = [0; STATE_BYTES];
-        state[place::PHASE] = phase;
-        let mut case = Case {
-            state,
-            input: LeadInput::new(CLOSED).reading(200.0, 10.0),
-            resistance: 0.0,
-            allowance: AMPLE,
-        };
-        case = match phase {
-            0 => case,
-            1 => case.byte(place::SEEN, 0),
-            _ => case
-                .byte(place::SEEN, 7)
-                .number(place::THRESHOLD, THRESHOLD)
-                .number(place::MAXIMUM_VOLTAGE, THRESHOLD)
-                .number(place::TARGET_VOLTAGE, TARGET)
-                .byte(place::REQUEST, REQUEST)
-                .byte(place::TIME_BYTE_1, 60)
-                .byte(place::STATUS, status_in(phase)),
-        };
+        let input = LeadInput::new(CLOSED).reading(200.0, 10.0);
+        let case = Case { state: [0; STATE_BYTES], input, resistance: 0.0, allowance: AMPLE }.byte(PHASE, phase);
+        if phase < 2 {
+            return case;
+        }
+        let case = case.byte(SEEN, 7).number(THRESHOLD, 400).voltages(400, TARGET).time(60, 0)
+            .byte(REQUEST, ASKED).byte(STATUS, ENABLED | CONTACTOR_OPEN);
         match phase {
-            2 => case.input(|input| input.open(contact::CONNECTOR_LOCK)),
-            6 | 7 => case.byte(place::COMMAND, 20),
+            2 => case.open(CONNECTOR_LOCK),
+            6 => case.byte(COMMAND, 20).byte(STATUS, ENABLED),
+            7 => case.byte(COMMAND, 20),
+            8 => case.byte(STATUS, ENABLED),
             _ => case,
         }
     }
 
-    fn byte(mut self, at: usize, value: u8) -> Case {
-        self.state[at] = value;
-        self
-    }
+    fn byte(mut self, at: usize, value: u8) -> Case { self.state[at] = value; self }
+    fn flip(self, at: usize, bits: u8) -> Case { self.byte(at, self.state[at] ^ bits) }
+    fn number(self, at: usize, value: u16) -> Case { self.byte(at, value as u8).byte(at + 1, (value >> 8) as u8) }
+    fn voltages(self, most: u16, target: u16) -> Case { self.number(MAXIMUM_VOLTAGE, most).number(TARGET_VOLTAGE, target) }
+    fn time(self, byte_1: u8, byte_2: u8) -> Case { self.byte(TIME_BYTE_1, byte_1).byte(TIME_BYTE_2, byte_2) }
+    fn age(mut self, age: u32) -> Case { self.state[AGE..SPARE].copy_from_slice(&age.to_le_bytes()); self }
 
-    fn number(mut self, at: usize, value: u16) -> Case {
-        self.state[at..at + 2].copy_from_slice(&value.to_le_bytes());
-        self
-    }
-
-    fn age(mut self, age: u32) -> Case {
-        self.state[place::AGE..place::SPARE].copy_from_slice(&age.to_le_bytes());
-        self
-    }
-
-    fn input(mut self, change: impl Fn(LeadInput) -> LeadInput) -> Case {
-        self.input = change(self.input);
-        self
-    }
-
-    /// An H'102 as the state has it, but for these bytes 4 and 5.
-    fn status(self, faults: u8, status: u8) -> Case {
-        self.input(|input| input.status(TARGET, REQUEST, faults, status))
-    }
-
-    fn allowance(mut self, allowance: u32) -> Case {
-        self.allowance = allowance;
-        self
-    }
-
-    fn resistance(mut self, resistance: f32) -> Case {
-        self.resistance = resistance;
-        self
-    }
+    fn input(self, change: impl Fn(LeadInput) -> LeadInput) -> Case { Case { input: change(self.input), ..self } }
+    fn close(self, contacts: u8) -> Case { self.input(|input| input.close(contacts)) }
+    fn open(self, contacts: u8) -> Case { self.input(|input| input.open(contacts)) }
+    /// These contacts and nothing else.
+    fn only(self, contacts: u8) -> Case { self.input(|_| LeadInput::new(contacts)) }
+    /// A missing reading stays missing.
+    fn value(mut self, at: usize, value: f32) -> Case { self.input.0[at..][..4].copy_from_slice(&value.to_le_bytes()); self }
+    fn volts(self, volts: f32) -> Case { self.value(input_place::VOLTS, volts) }
+    fn amperes(self, amperes: f32) -> Case { self.value(input_place::AMPERES, amperes) }
+    fn missing(self, bits: u8) -> Case { self.input(|input| input.missing(bits)) }
+    fn ohms(self, ohms: f32) -> Case { self.input(|input| input.ohms(ohms)) }
+    /// An H'102 as the state has it, but for the status byte.
+    fn hears(self, status: u8) -> Case { self.input(|input| input.status(TARGET, ASKED, 0, status)) }
+    fn allowance(self, allowance: u32) -> Case { Case { allowance, ..self } }
+    fn resistance(self, resistance: f32) -> Case { Case { resistance, ..self } }
 
     fn tick(self) -> After {
-        let mut post = Post::new(1, 500, 125, self.resistance);
-        post.state[HEAD_BYTES..].copy_from_slice(&self.state);
-        let output = post.tick(self.allowance, &[self.input]);
-        After {
-            state: post.lead(0),
-            output: output[0],
-        }
-    }
-}
-
-/// A status byte with which a lead may stay in the phase: the contactor is
-/// closed where its opening would end the phase or stop the lead.
-fn status_in(phase: u8) -> u8 {
-    match phase {
-        6 | 8 => ENABLED,
-        _ => ENABLED | CONTACTOR_OPEN,
+        let mut state = fresh(1, 500, 125);
+        state[head_place::RESISTANCE..HEAD_BYTES].copy_from_slice(&self.resistance.to_le_bytes());
+        state[HEAD_BYTES..].copy_from_slice(&self.state);
+        let output = done(&mut state, self.allowance, &[self.input])[0];
+        let state: [u8; STATE_BYTES] = state[HEAD_BYTES..].try_into().unwrap();
+        // Both begin with phase, reason and command.
+        assert_eq!(state[..3], output[..3]);
+        After { state, output }
     }
 }
 
@@ -160,51 +115,32 @@ struct After {
 }
 
 impl After {
-    fn phase(&self) -> u8 {
-        assert_eq!(self.state[place::PHASE], self.output[0]);
-        self.output[0]
-    }
+    fn phase_and_reason(&self) -> (u8, u8) { (self.output[output_place::PHASE], self.output[output_place::REASON]) }
+    fn command(&self) -> u8 { self.output[output_place::COMMAND] }
+    fn number(&self, at: usize) -> u16 { u16::from_le_bytes([self.state[at], self.state[at + 1]]) }
+    fn age(&self) -> u32 { u32::from_le_bytes(self.state[AGE..SPARE].try_into().unwrap()) }
+    fn h109(&self) -> &[u8] { &self.output[output_place::H109..] }
+}
 
-    fn reason(&self) -> u8 {
-        assert_eq!(self.state[place::REASON], self.output[1]);
-        self.output[1]
-    }
-
-    fn command(&self) -> u8 {
-        assert_eq!(self.state[place::COMMAND], self.output[2]);
-        self.output[2]
-    }
-
-    fn phase_and_reason(&self) -> (u8, u8) {
-        (self.phase(), self.reason())
-    }
-
-    fn number(&self, at: usize) -> u16 {
-        u16::from_le_bytes([self.state[at], self.state[at + 1]])
-    }
-
-    fn age(&self) -> u32 {
-        u32::from_le_bytes(self.state[place::AGE..place::SPARE].try_into().unwrap())
-    }
-
-    fn h108(&self) -> [u8; 8] {
-        self.output[8..16].try_into().unwrap()
-    }
-
-    fn h109(&self) -> [u8; 8] {
-        self.output[16..24].try_into().unwrap()
-    }
-
-    fn flag(&self, flag: u8) -> bool {
-        self.h109()[5] >> flag & 1 == 1
+/// Rows of a phase, a change of its case, and what is then shown.
+fn check<T: PartialEq + std::fmt::Debug>(show: fn(&After) -> T, rows: &[(u8, Change, T)]) {
+    for (row, (phase, change, expected)) in rows.iter().enumerate() {
+        let after = change(Case::new(*phase)).tick();
+        assert_eq!(show(&after), *expected, "row {row}, phase {phase}");
     }
 }
 
 #[test]
-fn the_cases_stay() {
-    for phase in 0..=10 {
-        let after = Case::new(phase).age(3).tick();
-        assert_eq!(after.phase_and_reason(), (phase, 0));
-        assert_eq!(after.age(), 4);
-    }
+fn places_and_bits_have_the_documents_numbers() {
+    assert_eq!([PHASE, REASON, COMMAND, REQUEST, FAULTS, STATUS, SILENCE, SEEN], [0, 1, 2, 3, 4, 5, 6, 7]);
+    assert_eq!([THRESHOLD, MAXIMUM_VOLTAGE, TARGET_VOLTAGE], [8, 10, 12]);
+    assert_eq!([TIME_BYTE_1, TIME_BYTE_2, AGE, SPARE], [14, 15, 16, 20]);
+    assert_eq!([PLUG, CHARGE_PERMISSION, CONNECTOR_LOCK, EMERGENCY_STOP], [1, 2, 4, 8]);
+    assert_eq!([STOP_BUTTON, START_BUTTON, GROUND_FAULT], [16, 32, 64]);
+    assert_eq!([present::VOLTS, present::AMPERES, present::RESISTANCE], [1, 2, 4]);
+    use input_place::{AMPERES, CONTACTS, COUNT, FRAMES, OHMS, PRESENT, VOLTS};
+    assert_eq!([CONTACTS, PRESENT, COUNT, input_place::SPARE, VOLTS, AMPERES, OHMS, FRAMES], [0, 1, 2, 3, 4, 8, 12, 16]);
+    assert_eq!([1, 4].map(state_bytes), [40, 136]);
+    assert_eq!([1, 4].map(input_bytes), [108, 420]);
+    assert_eq!([1, 4].map(output_bytes), [24, 96]);
 }

@@ -74,6 +74,10 @@ abbrev pub byWord : List (List ℕ) → List ℕ → Parsed
 byWord [] d = says Other d
 byWord (w ∷ fs) d = cond (same w tickWord) (tickLine fs d) (says (cond (same w setupWord) (setupLine fs) Other) d)
 
--- "Any other line, one above 1,000 characters": the buffer stays as it was
+-- "one above 1,000 characters"
+abbrev pub longest : ℕ
+longest = 1000
+
+-- "Any other line": the buffer stays as it was
 unfoldable pub parsedOf : List ℕ → List ℕ → Parsed
-parsedOf s d = cond (leb (length s) 1000) (byWord (fieldsOf s) d) (says Other d)
+parsedOf s d = cond (leb (length s) longest) (byWord (fieldsOf s) d) (says Other d)

@@ -2,25 +2,6 @@
 use libc::STDOUT_FILENO;
 ghost use Prim.Native.Nat.{_<_};
 
-pub(crate) fn is_digit(character: u8) -> bool {
-    ((b'0' <= character) & (character <= b'9')) | ((b'A' <= character) & (character <= b'F'))
-}
-
-// 0 for a character that is no digit.
-fn value(character: u8) -> u8
-    ensures { λ r. ⌜ r < 16 ⌝ }
-{
-    match character {
-        b'0'..=b'9' => character - b'0',
-        b'A'..=b'F' => character - b'A' + 10,
-        _ => 0,
-    }
-}
-
-pub(crate) fn byte(high: u8, low: u8) -> u8 {
-    16 * value(high) + value(low)
-}
-
 fn digit(value: u8) -> u8
     requires { ⌜ value < 16 ⌝ }
 {
@@ -31,16 +12,14 @@ fn digit(value: u8) -> u8
     }
 }
 
-pub(crate) fn high_digit(byte: u8) -> u8 {
-    digit(byte / 16)
-}
-
-pub(crate) fn low_digit(byte: u8) -> u8 {
-    digit(byte % 16)
-}
-
 pub(crate) fn write_byte(byte: u8) {
-    io::write_all(STDOUT_FILENO, &[high_digit(byte), low_digit(byte)]);
+    io::write_all(STDOUT_FILENO, &[digit(byte / 16), digit(byte % 16)]);
+}
+
+pub(crate) fn write_bytes(bytes: &[u8]) {
+    for i in 0..bytes.len() {
+        write_byte(bytes[i]);
+    }
 }
 
 // A call's number as a character.
@@ -50,4 +29,11 @@ pub(crate) fn digit_of(number: u32) -> u8 {
     } else {
         b'?'
     }
+}
+
+// The answer to a tick, as the bench program prints one that is done.
+pub(crate) fn write_done(number: u32, output: &[u8]) {
+    io::write_all(STDOUT_FILENO, &[digit_of(number), b'\t']);
+    write_bytes(output);
+    io::write_all(STDOUT_FILENO, &[b'\n']);
 }

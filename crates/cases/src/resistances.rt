@@ -3,6 +3,7 @@
 use super::hex;
 use lead_records::StateRecord;
 use libc::STDOUT_FILENO;
+use post::HEAD_SIZE;
 use post::setup;
 
 // 0.5, minus zero, 1, the next float above it, minus the smallest float, plus infinity, two NaNs.
@@ -18,7 +19,7 @@ const RESISTANCES: [u32; 8] = [
 ];
 
 // A post of one lead, and where its resistance stands.
-const STATE: usize = 8 + StateRecord::SIZE;
+const STATE: usize = HEAD_SIZE + StateRecord::SIZE;
 
 const RESISTANCE: usize = 4;
 
@@ -26,7 +27,7 @@ fn set_up(resistance: u32) {
     let mut state = [0u8; STATE];
     let number = setup(1, 500, 125, resistance, &mut state);
     io::write_all(STDOUT_FILENO, &[hex::digit_of(number), b'\t']);
-    for i in RESISTANCE..8 {
+    for i in RESISTANCE..HEAD_SIZE {
         hex::write_byte(state[i]);
     }
     io::write_all(STDOUT_FILENO, &[b'\n']);

@@ -4,6 +4,8 @@ use lead_records::InputRecord;
 use lead_records::OutputRecord;
 use lead_records::StateRecord;
 use libc::STDOUT_FILENO;
+use post::HEAD_SIZE;
+use post::LIMIT_SIZE;
 use post::setup;
 use post::tick;
 
@@ -16,22 +18,16 @@ const RATED_AMPERES: u32 = 125;
 
 const RESISTANCE: u32 = 0;
 
-const STATE: usize = 8 + StateRecord::SIZE;
+const STATE: usize = HEAD_SIZE + StateRecord::SIZE;
 
 const INPUT: usize = CONTACTS + InputRecord::SIZE;
 
 const OUTPUT: usize = OutputRecord::SIZE;
 
 // Where the contacts stand in the input, behind the power limit, and plug closed with start pressed.
-const CONTACTS: usize = 4;
+const CONTACTS: usize = LIMIT_SIZE;
 
 const PLUG_AND_START: u8 = 33;
-
-fn write_bytes(bytes: &[u8; OUTPUT]) {
-    for i in 0..OUTPUT {
-        hex::write_byte(bytes[i]);
-    }
-}
 
 pub(crate) fn whole_case() {
     let mut state = [0u8; STATE];
@@ -41,7 +37,5 @@ pub(crate) fn whole_case() {
     let number = setup(LEADS, RATED_VOLTS, RATED_AMPERES, RESISTANCE, &mut state);
     io::write_all(STDOUT_FILENO, &[hex::digit_of(number), b'\n']);
     let number = tick(&mut state, &input, &mut output);
-    io::write_all(STDOUT_FILENO, &[hex::digit_of(number), b'\t']);
-    write_bytes(&output);
-    io::write_all(STDOUT_FILENO, &[b'\n']);
+    hex::write_done(number, &output);
 }

@@ -1,17 +1,21 @@
 -- What a call returns and leaves, done or refused; r is the number that the code worked out. Assumes nothing.
 use mathlib.Core.List.{List}
-use mathlib.Core.Path.{_≡_, refl, ap}
+use mathlib.Core.Path.{_≡_, refl, sym, ap, _∙_}
 use Prim.Native.Nat.{ℕ, _<_}
 use lib.Dec.{ltb, ltb→lt}
 use lib.ListN.{length}
 use Rattle.common.specs.Refusals.{refusalOf}
-use Rattle.common.proofs.Refused.{carried-out, turned-away, left-passes}
+use Rattle.common.proofs.Refused.{carried-out, turned-away, either-way, left-passes}
+use Rattle.common.proofs.Joined.{joined-length}
 use Rattle.lead.specs.Leads.{fresh}
+use Rattle.lead_records.specs.Outputs.{outputSize}
+use Rattle.lead_records.proofs.Shown.{output-length}
 use Rattle.post.specs.Heads.{headOf}
-use Rattle.post.specs.Rules.{tickInput, shownAfter, postBytes}
+use Rattle.post.specs.Rules.{TickInput, tickInput, leadAfter, shownAt, shownAfter, postBytes}
 use Rattle.post.specs.Refusals.{headRows, setupRows, inputRows, tickRows}
 use Rattle.post.specs.Calls.{SetUp, setupOf, leadsOf, stateAfter, Ticked, tickOf}
 use Rattle.post.specs.declared.head.Head.{Head}
+use Rattle.post.proofs.Taken.{tick-taken}
 
 module _ (h : Head) (state : List ℕ) {r : ℕ} (e : r ≡ refusalOf (setupRows h (length state))) where
   pub setup-done :
@@ -54,3 +58,14 @@ tick-byte state input output e =
     rw (ap (λ (x : Ticked). x .number) e)
     (ltb→lt _ 256
     (left-passes _ _ (λ (x : Ticked). x .number) (λ n. ltb n 256) (tickRows state input (length output)) (λ n. refl) tt tt tt))
+
+-- a tick, done or refused, leaves as many bytes of output as it was lent
+pub shown-length : (state input output : List ℕ) → length (tickOf state input output .output) ≡ length output
+unfolding tickOf shownAfter
+shown-length state input output =
+    let h : Head = headOf state in
+    let i : TickInput = tickInput input in
+    either-way _ _ (λ (x : Ticked). length (x .output) ≡ length output) (refusalOf (tickRows state input (length output))) (λ n. refl)
+    (λ e.
+    joined-length outputSize (λ k. shownAt h i (leadAfter h i (leadsOf state) k) k) (λ k. output-length (h .ratings) _ _ _) (h .leads)
+    ∙ sym (tick-taken {input = input} refl e .output-length))

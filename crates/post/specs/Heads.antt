@@ -9,6 +9,10 @@ use Rattle.common.specs.Parts.{part}
 use Rattle.post.specs.declared.head.Head.{Head}
 use Rattle.post.specs.declared.head.SetupNumbers.{SetupNumbers}
 
+-- "1 to 4 leads"
+abbrev pub mostLeads : ℕ
+mostLeads = 4
+
 -- "State: 8 bytes (…), then 32 a lead"
 abbrev pub headSize : ℕ
 headSize = 8

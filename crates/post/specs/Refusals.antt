@@ -10,13 +10,13 @@ use Rattle.common.specs.Refusals.{Asked, asks, refusalOf}
 use Rattle.readings.specs.Readings.{allowedResistance}
 use Rattle.lead_records.specs.States.{goodState}
 use Rattle.lead_records.specs.Inputs.{goodInput}
-use Rattle.post.specs.Heads.{stateLength, inputLength, outputLength, headOf, statePart, inputPart}
+use Rattle.post.specs.Heads.{mostLeads, stateLength, inputLength, outputLength, headOf, statePart, inputPart}
 use Rattle.post.specs.declared.head.Head.{Head}
 
 -- "1 to 4 leads? (1) Rated volts 50–500? (2) Rated amperes 1–200? (3) Resistance 0 to 1, so no NaN? (4)"
 unfoldable pub headRows : Head → List Asked
 headRows h =
-    asks (between 1 4 (h .leads)) 1
+    asks (between 1 mostLeads (h .leads)) 1
     ∷ asks (between 50 500 (h .ratings .volts)) 2
     ∷ asks (between 1 200 (h .ratings .amperes)) 3
     ∷ asks (allowedResistance (h .ratings .resistance)) 4

@@ -1,4 +1,5 @@
 // The head of a post's state, and what setup asks of it.
+use super::lengths::MOST_LEADS;
 use super::names::Refusal;
 use common::is_between;
 use common::unless;
@@ -105,7 +106,7 @@ impl Head {
 pub(crate) fn head_refusal(numbers: SetupNumbers) -> u32
     ensures { λ r. ⌜ r ≡ refusalOf (headRows (headFrom numbers)) ⌝ }
 {
-    if !is_between(1, 4, numbers.leads) {
+    if !is_between(1, MOST_LEADS, numbers.leads) {
         return Refusal::LEADS;
     }
     if !is_between(50, 500, numbers.volts) {

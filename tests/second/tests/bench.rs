@@ -1,5 +1,6 @@
 use crate::bench::run;
-use std::io::{self, Read, Write};
+use crate::post::{input_bytes, output_bytes};
+use std::io::{self, Read};
 
 fn bench(input: impl AsRef<[u8]>) -> String {
     let mut output = Vec::new();
@@ -7,238 +8,128 @@ fn bench(input: impl AsRef<[u8]>) -> String {
     String::from_utf8(output).unwrap()
 }
 
+/// The document's whole case.
 const SETUP: &str = "setup\t1\t500\t125\t00000000\n";
+const START: &str = "tick\t0000000021\n";
+const STARTED: &str = "0\t010000090000000001F4017D000000000200000000200000\n";
 
-/// What an idle lead shows.
+const TWO: &str = "setup\t2\t500\t125\t00000000\n";
+
+/// What idle leads show.
 fn idle(leads: usize) -> String {
-    format!("0\t{}\n", "00".repeat(24 * leads))
+    format!("0\t{}\n", "00".repeat(output_bytes(leads)))
 }
 
-/// The line after an accepted setup.
-fn after_setup(line: impl AsRef<[u8]>) -> String {
-    let mut input = SETUP.as_bytes().to_vec();
-    input.extend_from_slice(line.as_ref());
-    bench(input).strip_prefix("0\n").unwrap().to_string()
+/// The lines after an accepted setup.
+fn after_setup(lines: impl AsRef<[u8]>) -> String {
+    bench([SETUP.as_bytes(), lines.as_ref()].concat()).strip_prefix("0\n").unwrap().to_string()
 }
 
-#[test]
-fn whole_case() {
-    assert_eq!(
-        bench("setup\t1\t500\t125\t00000000\ntick\t0000000021\n"),
-        "0\n0\t010000090000000001F4017D000000000200000000200000\n"
-    );
+/// A tick line of so many equal bytes.
+fn bytes(pair: &str, count: usize) -> String {
+    format!("tick\t{}\n", pair.repeat(count))
 }
 
 #[test]
-fn carriage_return_is_a_character() {
-    assert_eq!(bench("setup\t1\t500\t125\t00000000\r\n"), "?\n");
-    assert_eq!(after_setup("tick\t00\r\n"), "?\n");
-}
-
-#[test]
-fn ends_of_lines() {
-    assert_eq!(bench(""), "");
-    assert_eq!(bench("\n"), "?\n");
-    assert_eq!(bench("\n\n"), "?\n?\n");
-    assert_eq!(bench(SETUP.trim_end()), "0\n");
-    assert_eq!(after_setup("tick\t"), idle(1));
-    assert_eq!(after_setup("\ntick\t\n"), format!("?\n{}", idle(1)));
-}
-
-#[test]
-fn decimals() {
-    let setup = |leads: &str, volts: &str, amperes: &str| {
-        bench(format!("setup\t{leads}\t{volts}\t{amperes}\t00000000\n"))
-    };
-    assert_eq!(setup("1", "500", "125"), "0\n");
-    assert_eq!(setup("0001", "00000500", "0125"), "0\n");
-    for odd in [
-        "+1", "-0", "-1", " 1", "1 ", "0x1", "1_0", "1,0", "", "1.0", "٣", "a",
+fn lines() {
+    // A carriage return is a character like any other.
+    for (input, answer) in [
+        ("", ""), ("\n", "?\n"), ("\n\n", "?\n?\n"), (SETUP.trim_end(), "0\n"), (&SETUP.replace('\n', "\r\n"), "?\n"),
+        // Before an accepted setup.
+        ("tick\t00\n", "?\n"), ("tick\tzz\n", "?\n"),
+        ("setup\t1\t49\t125\t00000000\ntick\t00\n", "2\n?\n"), ("setup\t5\t500\t125\t00000000\ntick\t00\n", "1\n?\n"),
     ] {
-        assert_eq!(setup(odd, "500", "125"), "?\n");
-        assert_eq!(setup("1", odd, "125"), "?\n");
-        assert_eq!(setup("1", "500", odd), "?\n");
+        assert_eq!(bench(input), answer, "{input:?}");
     }
-    for (number, leads, others) in [
-        ("65535", "1\n", ("2\n", "3\n")),
-        ("065535", "1\n", ("2\n", "3\n")),
-        ("65536", "?\n", ("?\n", "?\n")),
-        ("4294967297", "?\n", ("?\n", "?\n")),
-        ("18446744073709551617", "?\n", ("?\n", "?\n")),
-    ] {
-        assert_eq!(setup(number, "500", "125"), leads);
-        assert_eq!(setup("1", number, "125"), others.0);
-        assert_eq!(setup("1", "500", number), others.1);
-    }
-    assert_eq!(setup("257", "500", "125"), "1\n");
-    assert_eq!(setup("1", "500", "381"), "3\n");
-    // A number that is none counts before any refusal.
-    assert_eq!(setup("0", "500", "65536"), "?\n");
-}
-
-#[test]
-fn resistance_bits() {
-    let setup = |bits: &str| bench(format!("setup\t1\t500\t125\t{bits}\n"));
-    assert_eq!(setup("3F000000"), "0\n");
-    assert_eq!(setup("3f000000"), "0\n");
-    assert_eq!(setup("3F800000"), "0\n");
-    assert_eq!(setup("3f800001"), "4\n");
-    assert_eq!(setup("80000000"), "0\n");
-    assert_eq!(setup("80000001"), "4\n");
-    assert_eq!(setup("7fC0aBcD"), "4\n");
     for odd in [
-        "",
-        "0",
-        "0000000",
-        "000000000",
-        "0000000G",
-        "0x000000",
-        " 0000000",
-        "+0000000",
-    ] {
-        assert_eq!(setup(odd), "?\n");
-    }
-    // Highest first: half an ohm takes 5 V off 400.25 V (H'43C82000) at 10 A
-    // (H'41200000), and 395.25 gives 396, H'18C.
-    let tick = "tick\t00000000210300000020C84300002041";
-    let shown = bench(format!("setup\t1\t500\t125\t3F000000\n{tick}"));
-    assert_eq!(
-        shown,
-        "0\n0\t010000090000000001F4017D00000000028C010A00200000\n"
-    );
-}
-
-#[test]
-fn fields() {
-    for odd in [
-        "tick",
-        "tick\t\t",
-        "tick\t00\t",
-        "tick\t\t00",
-        "\ttick\t00",
-        "tick 00",
-        "Tick\t00",
-        "TICK\t00",
-        " tick\t00",
-        "tick \t00",
-        "tick\t 00",
-        "tick\t00 ",
-        "tick\t0",
-        "tick\t000",
-        "tick\t0G",
-        "tick\t0x00",
-        "tick\t00\0",
-        "setup",
-        "setup\t",
-        "setup\t1\t500\t125",
-        "setup\t1\t500\t125\t00000000\t",
-        "setup\t1\t500\t125\t00000000\t0",
-        "SETUP\t1\t500\t125\t00000000",
-        "setup\t\t500\t125\t00000000",
-        "\t",
-        "?",
-        "0",
+        "tick", "tick\t\t", "tick\t00\t", "tick\t\t00", "\ttick\t00", "tick 00", "Tick\t00", "TICK\t00", " tick\t00",
+        "tick \t00", "tick\t 00", "tick\t00 ", "tick\t0", "tick\t000", "tick\t0G", "tick\t0x00", "tick\t00\0",
+        "tick\t00\r", "setup", "setup\t", "setup\t1\t500\t125", "setup\t1\t500\t125\t00000000\t",
+        "setup\t1\t500\t125\t00000000\t0", "SETUP\t1\t500\t125\t00000000", "setup\t\t500\t125\t00000000", "\t", "?", "0",
+        "\0", "\n",
     ] {
         assert_eq!(after_setup(odd), "?\n", "{odd:?}");
     }
-    assert_eq!(after_setup("tick\t00"), idle(1));
-    let either_case = after_setup("tick\tffFFfFFf21");
-    assert_eq!(
-        either_case,
-        "0\t010000090000000001F4017D000000000200000000200000\n"
-    );
+    // Any bytes; an odd line changes nothing.
+    assert_eq!(after_setup(b"tick\t\xFF\xFE\n"), "?\n");
+    assert_eq!(after_setup(b"\xC3\x28\ntick\t\n"), format!("?\n{}", idle(1)));
+    assert_eq!(bench((0..=255).collect::<Vec<u8>>()), "?\n?\n");
 }
 
 #[test]
-fn any_bytes() {
-    assert_eq!(after_setup(b"tick\t\xFF\xFE\n"), "?\n");
-    assert_eq!(
-        after_setup(b"\xC3\x28\ntick\t\n"),
-        format!("?\n{}", idle(1))
-    );
-    assert_eq!(after_setup(b"\0\n"), "?\n");
-    let all: Vec<u8> = (0..=255).collect();
-    assert_eq!(bench(&all), "?\n?\n");
+fn numbers_of_setup() {
+    let with = |field: usize, text: &str| {
+        let mut fields = ["setup", "1", "500", "125", "00000000"];
+        fields[field] = text;
+        bench(fields.join("\t"))
+    };
+    for field in 1..=3 {
+        for odd in ["+1", "-0", "-1", " 1", "1 ", "0x1", "1_0", "1,0", "", "1.0", "٣", "a"] {
+            assert_eq!(with(field, odd), "?\n", "{odd:?}");
+        }
+        for (number, understood) in [
+            ("65535", true), ("065535", true), ("65536", false), ("4294967297", false), ("18446744073709551617", false),
+        ] {
+            assert_eq!(with(field, number), if understood { format!("{field}\n") } else { "?\n".to_string() });
+        }
+    }
+    for (field, text, answer) in [
+        (1, "0001", "0\n"), (2, "00000500", "0\n"), (3, "0125", "0\n"), (1, "257", "1\n"), (3, "381", "3\n"),
+        (4, "3F000000", "0\n"), (4, "3f000000", "0\n"), (4, "3F800000", "0\n"), (4, "3f800001", "4\n"),
+        (4, "80000000", "0\n"), (4, "80000001", "4\n"), (4, "7fC0aBcD", "4\n"),
+        (4, "", "?\n"), (4, "0", "?\n"), (4, "0000000", "?\n"), (4, "000000000", "?\n"), (4, "0000000G", "?\n"),
+        (4, "0x000000", "?\n"), (4, " 0000000", "?\n"), (4, "+0000000", "?\n"),
+    ] {
+        assert_eq!(with(field, text), answer, "{text:?}");
+    }
+    // A number that is none counts before any refusal.
+    assert_eq!(bench("setup\t0\t500\t65536\t00000000"), "?\n");
+    // Highest first: half an ohm takes 5 V off 400.25 V (H'43C82000) at 10 A (H'41200000), and
+    // 395.25 gives 396, H'18C.
+    let shown = bench("setup\t1\t500\t125\t3F000000\ntick\t00000000210300000020C84300002041");
+    assert_eq!(shown, "0\n0\t010000090000000001F4017D00000000028C010A00200000\n");
 }
 
 #[test]
 fn long_lines() {
-    let setup = |characters: usize| {
-        let rest = "\t500\t125\t00000000";
-        let zeros = characters - "setup\t1".len() - rest.len();
-        let line = format!("setup\t{}1{rest}", "0".repeat(zeros));
-        assert_eq!(line.len(), characters);
-        line
-    };
-    assert_eq!(bench(setup(1000)), "0\n");
+    let line = SETUP.trim_end();
+    let setup = |characters| line.replace("\t1\t", &format!("\t{}1\t", "0".repeat(characters - line.len())));
+    assert_eq!(setup(1000).len(), 1000);
+    assert_eq!(bench([setup(1000), setup(1001), setup(1002), setup(1000)].join("\n")), "0\n?\n?\n0\n");
     assert_eq!(bench(setup(1001)), "?\n");
-    assert_eq!(bench(setup(1000) + "\n" + &setup(1001) + "\n"), "0\n?\n");
-    assert_eq!(bench(setup(1002) + "\n" + &setup(1000)), "?\n0\n");
     // A tick of 999 characters is passed on, one of 1,001 isn't.
-    assert_eq!(after_setup(format!("tick\t{}", "00".repeat(497))), "7\n");
-    assert_eq!(after_setup(format!("tick\t{}", "00".repeat(498))), "?\n");
+    assert_eq!((after_setup(bytes("00", 497)), after_setup(bytes("00", 498))), ("7\n".into(), "?\n".into()));
     // The rest of a long line is no line of its own.
-    let long = "x".repeat(100_000) + "\ttick\t00\n" + SETUP;
-    assert_eq!(bench(long), "?\n0\n");
+    assert_eq!(bench("x".repeat(100_000) + "\ttick\t00\n" + SETUP), "?\n0\n");
 }
 
 #[test]
-fn missing_and_surplus_bytes() {
-    assert_eq!(after_setup(format!("tick\t{}", "00".repeat(107))), idle(1));
-    assert_eq!(after_setup(format!("tick\t{}", "00".repeat(108))), idle(1));
-    assert_eq!(after_setup(format!("tick\t{}", "00".repeat(109))), "7\n");
-    assert_eq!(after_setup(format!("tick\t{}", "FF".repeat(109))), "7\n");
-    assert_eq!(after_setup(format!("tick\t{}", "FF".repeat(108))), "9\n");
-    // The padding follows the newest post.
-    let two = "setup\t2\t500\t125\t00000000\n";
-    let line = format!("tick\t{}\n", "00".repeat(109));
-    assert_eq!(
-        bench(format!("{SETUP}{two}{line}")),
-        format!("0\n0\n{}", idle(2))
-    );
-    assert_eq!(bench(format!("{two}{SETUP}{line}")), "0\n0\n7\n");
-}
-
-#[test]
-fn before_an_accepted_setup() {
-    assert_eq!(bench("tick\t00\n"), "?\n");
-    assert_eq!(bench("tick\tzz\n"), "?\n");
-    assert_eq!(bench("setup\t1\t49\t125\t00000000\ntick\t00\n"), "2\n?\n");
-    assert_eq!(bench("setup\t5\t500\t125\t00000000\ntick\t00\n"), "1\n?\n");
-}
-
-#[test]
-fn the_earlier_post_is_kept() {
-    let start = "tick\t0000000021\n";
-    let started = "0\t010000090000000001F4017D000000000200000000200000\n";
-    let stopped = format!("0\t0A0C{}\n", "00".repeat(22));
+fn ticks_of_the_newest_post() {
     // The plug is open in a tick of zeros: 12, into phase 10.
-    for between in [
-        "setup\t0\t500\t125\t00000000",
-        "setup\t3\t500\t201\t00000000",
-        "setup\t4\t400\t100\t7F800000",
-        "setup\t1\t501\t125\t00000000",
+    let stopped = &format!("0\t0A0C{}\n", "00".repeat(output_bytes(1) - 2));
+    let (one, two) = (&idle(1), &idle(2));
+    for (lines, answers) in [
+        (vec![SETUP, START], vec!["0\n", STARTED]),
+        // Missing bytes are 0, surplus ones are passed on. Either case.
+        (vec![SETUP, "tick\t"], vec!["0\n", one]),
+        (vec![SETUP, "tick\t00\n", "tick\tffFFfFFf21\n"], vec!["0\n", one, STARTED]),
+        (vec![SETUP, &bytes("00", input_bytes(1) - 1), &bytes("00", input_bytes(1))], vec!["0\n", one, one]),
+        (vec![SETUP, &bytes("00", input_bytes(1) + 1), &bytes("FF", input_bytes(1) + 1)], vec!["0\n", "7\n", "7\n"]),
+        (vec![SETUP, &bytes("FF", input_bytes(1))], vec!["0\n", "9\n"]),
+        (vec![SETUP, TWO, &bytes("00", input_bytes(1) + 1)], vec!["0\n", "0\n", two]),
+        (vec![TWO, SETUP, &bytes("00", input_bytes(1) + 1)], vec!["0\n", "0\n", "7\n"]),
+        // A refused setup or tick and an odd line keep the post as it is.
+        (vec![SETUP, START, "setup\t0\t500\t125\t00000000\n", "tick\t\n"], vec!["0\n", STARTED, "1\n", stopped]),
+        (vec![SETUP, START, "setup\t1\t501\t125\t00000000\n", "tick\t\n"], vec!["0\n", STARTED, "2\n", stopped]),
+        (vec![SETUP, START, "setup\t3\t500\t201\t00000000\n", "tick\t\n"], vec!["0\n", STARTED, "3\n", stopped]),
+        (vec![SETUP, START, "setup\t4\t400\t100\t7F800000\n", "tick\t\n"], vec!["0\n", STARTED, "4\n", stopped]),
+        (vec![SETUP, START, "setup\t1\t500\t125\t0\n", "tick\t\n"], vec!["0\n", STARTED, "?\n", stopped]),
+        (vec![SETUP, START, "tick\t0000000080\n", "x\n", "tick\t\n"], vec!["0\n", STARTED, "9\n", "?\n", stopped]),
+        // An accepted one throws it away.
+        (vec![SETUP, START, SETUP, "tick\t\n"], vec!["0\n", STARTED, "0\n", one]),
     ] {
-        let number = bench(between);
-        assert_eq!(
-            bench(format!("{SETUP}{start}{between}\ntick\t\n")),
-            format!("0\n{started}{number}{stopped}")
-        );
+        assert_eq!(bench(lines.concat()), answers.concat(), "{lines:?}");
     }
-    assert_eq!(
-        bench(format!("{SETUP}{start}setup\t1\t500\t125\t0\ntick\t\n")),
-        format!("0\n{started}?\n{stopped}")
-    );
-    // A refused tick and an odd line change nothing either.
-    assert_eq!(
-        bench(format!("{SETUP}{start}tick\t0000000080\nx\ntick\t\n")),
-        format!("0\n{started}9\n?\n{stopped}")
-    );
-    // An accepted setup throws the old state away.
-    assert_eq!(
-        bench(format!("{SETUP}{start}{SETUP}tick\t\n")),
-        format!("0\n{started}0\n{}", idle(1))
-    );
 }
 
 /// Gives one byte at a time, with interruptions.
@@ -247,41 +138,16 @@ struct Drip<'a>(&'a [u8], bool);
 impl Read for Drip<'_> {
     fn read(&mut self, buffer: &mut [u8]) -> io::Result<usize> {
         self.1 = !self.1;
-        if self.1 {
-            return Err(io::ErrorKind::Interrupted.into());
-        }
-        let Some((first, rest)) = self.0.split_first() else {
-            return Ok(0);
-        };
-        buffer[0] = *first;
-        self.0 = rest;
-        Ok(1)
+        if self.1 { Err(io::ErrorKind::Interrupted.into()) } else { self.0.read(&mut buffer[..1]) }
     }
 }
 
 #[test]
-fn input_in_drips() {
-    let input = format!("{SETUP}tick\t0000000021\n\ntick\t");
+fn odd_readers_and_writers() {
+    let input = format!("{SETUP}{START}\ntick\t");
     let mut output = Vec::new();
     run(Drip(input.as_bytes(), false), &mut output).unwrap();
     assert_eq!(output, bench(&input).as_bytes());
-}
-
-struct Closed;
-
-impl Write for Closed {
-    fn write(&mut self, _: &[u8]) -> io::Result<usize> {
-        Err(io::ErrorKind::BrokenPipe.into())
-    }
-
-    fn flush(&mut self) -> io::Result<()> {
-        Ok(())
-    }
-}
-
-#[test]
-fn a_closed_output_ends_it() {
-    // The input never does.
-    let error = run(io::repeat(b'\n'), Closed).unwrap_err();
-    assert_eq!(error.kind(), io::ErrorKind::BrokenPipe);
+    // An output that takes nothing more ends it; the input never does.
+    assert_eq!(run(io::repeat(b'\n'), &mut [][..]).unwrap_err().kind(), io::ErrorKind::WriteZero);
 }

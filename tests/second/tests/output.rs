@@ -1,161 +1,108 @@
 use super::*;
-use crate::lead::present;
+use crate::lead::switch::{D1, D2, FRAMES, LOCK};
+use output_place::{H108, H109, PHASE, SPARE, SWITCHES, TEST_VOLTS};
+
+/// What a lead shows with 200 V, 10 A and the lock contact closed, but for phase 2.
+const SHOWN: [[u8; OUTPUT_BYTES]; 11] = [
+    [0; OUTPUT_BYTES],
+    shown(1, 0, D1 | FRAMES, 0, 0, 0b100100, 0),
+    shown(2, 0, D1 | LOCK | FRAMES, 0, 400, 0b100000, 60),
+    shown(3, 0, D1 | LOCK | FRAMES, 400, 400, 0b100100, 60),
+    shown(4, 0, D1 | LOCK | FRAMES, 0, 400, 0b100100, 60),
+    shown(5, 0, D1 | D2 | LOCK | FRAMES, 0, 400, 0b100100, 60),
+    shown(6, 22, D1 | D2 | LOCK | FRAMES, 0, 400, 0b000101, 59),
+    shown(7, 10, D1 | D2 | LOCK | FRAMES, 0, 400, 0b100101, 0),
+    shown(8, 0, D1 | D2 | LOCK | FRAMES, 0, 400, 0b100100, 0),
+    shown(9, 0, LOCK | FRAMES, 0, 400, 0b100100, 0),
+    [10, 0, 0, 0, 0, 0, 0, 0, 0, 0, 0, 0, 0, 0, 0, 0, 0, 0, 0, 0, 0, 0, 0, 0],
+];
+
+const fn shown(phase: u8, command: u8, switches: u8, test: u16, kept: u16, flags: u8, time: u8) -> [u8; OUTPUT_BYTES] {
+    let ([t0, t1], [k0, k1]) = (test.to_le_bytes(), kept.to_le_bytes());
+    [
+        phase, 0, command, switches, t0, t1, 0, 0,
+        1, 0xF4, 0x01, 125, k0, k1, 0, 0,
+        2, 200, 0, 10, 0, flags, time, 0,
+    ]
+}
 
 #[test]
-fn lines_by_phase() {
-    const D1: u8 = 1;
-    const D2: u8 = 2;
-    const LOCK: u8 = 4;
-    const FRAMES: u8 = 8;
-    for phase in 0..=10 {
-        let expected = match phase {
-            1 => D1 | FRAMES,
-            2..=4 => D1 | LOCK | FRAMES,
-            5..=8 => D1 | D2 | LOCK | FRAMES,
-            9 => LOCK | FRAMES,
+fn all_bytes_by_phase() {
+    assert_eq!((D1, D2, LOCK, FRAMES), (1, 2, 4, 8));
+    for (phase, expected) in (0..).zip(SHOWN) {
+        let after = Case::new(phase).age(3).tick();
+        assert_eq!((after.output, after.age()), (expected, 4), "phase {phase}");
+    }
+}
+
+#[test]
+fn the_state_after_the_tick() {
+    check(|after| (after.output[PHASE], after.output[SWITCHES], after.output[TEST_VOLTS..SPARE] == [0x90, 1]), &[
+        (0, |c| c.close(START_BUTTON), (1, D1 | FRAMES, false)),
+        (2, |c| c.close(CONNECTOR_LOCK), (3, D1 | LOCK | FRAMES, true)),
+        (3, |c| c.ohms(1e6), (4, D1 | LOCK | FRAMES, false)),
+    ]);
+    check(|after| after.output[SWITCHES..] == [0; OUTPUT_BYTES - SWITCHES], &[
+        (1, |c| c.close(STOP_BUTTON), true), (9, |c| c.volts(1.0), true), (10, |c| c.open(PLUG), true),
+    ]);
+    // H'108 shows the threshold at once; a state handed in may have none.
+    check(|after| [after.output[H108 + 4], after.output[H108 + 5]], &[
+        (1, |c| c.input(|i| i.maximum_voltage(300).charging_time(6, 0).status(290, 9, 0, ENABLED)), [0x2C, 1]),
+        (8, |c| c.number(THRESHOLD, 0), [0, 0]), (9, |c| c.number(THRESHOLD, 0), [0, 0]),
+    ]);
+}
+
+#[test]
+fn readings_in_h109() {
+    check(|after| (u16::from_le_bytes([after.h109()[1], after.h109()[2]]), after.h109()[3]), &[
+        (9, |c| c.volts(400.25).amperes(0.0), (401, 0)), (9, |c| c.volts(400.0).amperes(100.0).resistance(0.5), (350, 100)),
+        (9, |c| c.volts(12.0).amperes(3.25).resistance(-0.0), (12, 4)), (9, |c| c.amperes(253.5), (200, 254)),
+        (9, |c| c.volts(1000.0).amperes(255.5), (1000, 255)), (9, |c| c.volts(1000.0).amperes(400.0), (1000, 255)),
+        (9, |c| c.volts(1000.5), (0, 0)), (9, |c| c.volts(f32::NAN), (0, 0)), (9, |c| c.amperes(-1.0), (0, 0)),
+    ]);
+    // In every phase, question 15 asked or not.
+    for (phase, bit) in (1..=9).flat_map(|phase| [(phase, present::VOLTS), (phase, present::AMPERES)]) {
+        assert_eq!(Case::new(phase).missing(bit).tick().h109()[1..4], [0, 0, 0]);
+    }
+}
+
+#[test]
+fn flags_of_reason_and_lock() {
+    for (phase, reason) in (1..=9).flat_map(|phase| [0].into_iter().chain(11..=29).map(move |reason| (phase, reason))) {
+        let flag = match reason {
+            13 | 15 | 16 | 17 | 18 | 27 => 1 << 1,
+            21 => 1 << 3,
+            19 | 28 => 1 << 4,
             _ => 0,
         };
-        let after = Case::new(phase).tick();
-        assert_eq!(after.output[3], expected, "phase {phase}");
-        let test_volts = if phase == 3 { THRESHOLD } else { 0 };
-        assert_eq!(after.output[4..6], test_volts.to_le_bytes());
-        assert_eq!(after.output[6..8], [0, 0]);
-        if matches!(phase, 0 | 10) {
-            assert_eq!(after.output[8..], [0; 16]);
-        }
+        let after = Case::new(phase).byte(REASON, reason).tick();
+        assert_eq!(after.phase_and_reason(), (phase, reason));
+        assert_eq!(after.h109()[5], SHOWN[usize::from(phase)][H109 + 5] | flag, "{reason} in phase {phase}");
     }
-}
-
-#[test]
-fn all_show_the_state_after_the_tick() {
-    let into_3 = Case::new(2)
-        .input(|i| i.close(contact::CONNECTOR_LOCK))
-        .tick();
-    assert_eq!(into_3.output[4..6], THRESHOLD.to_le_bytes());
-    let out_of_3 = Case::new(3).input(|i| i.ohms(1e6)).tick();
-    assert_eq!(out_of_3.output[4..6], [0, 0]);
-    let into_10 = Case::new(9).input(|i| i.volts(1.0)).tick();
-    assert_eq!(into_10.output[3..], [0; 21]);
-    let stopped = Case::new(1).input(|i| i.close(contact::STOP_BUTTON)).tick();
-    assert_eq!(stopped.output[3..], [0; 21]);
-}
-
-#[test]
-fn h108_shows_the_kept_threshold() {
-    for phase in 1..=9 {
-        let [low, high] = if phase == 1 { 0 } else { THRESHOLD }.to_le_bytes();
-        assert_eq!(
-            Case::new(phase).tick().h108(),
-            [1, 0xF4, 0x01, 125, low, high, 0, 0]
-        );
-    }
-    // 1 to 2 shows it at once; a state handed in may have none in 8 and 9.
-    let moved = Case::new(1)
-        .input(|i| {
-            i.maximum_voltage(300)
-                .charging_time(6, 0)
-                .status(290, 9, 0, ENABLED)
-        })
-        .tick();
-    assert_eq!(moved.h108()[4..6], 300u16.to_le_bytes());
-    for phase in [8, 9] {
-        let none = Case::new(phase).number(place::THRESHOLD, 0).tick();
-        assert_eq!(none.h108()[4..6], [0, 0]);
-    }
-}
-
-#[test]
-fn h109_volts_and_amperes() {
-    let shown = |resistance, volts, amperes| {
-        let after = Case::new(9)
-            .resistance(resistance)
-            .input(|i| i.reading(volts, amperes))
-            .tick();
-        let [two, low, high, amperes, zero, ..] = after.h109();
-        assert_eq!((two, zero), (2, 0));
-        (u16::from_le_bytes([low, high]), amperes)
-    };
-    assert_eq!(shown(0.0, 400.25, 0.0), (401, 0));
-    assert_eq!(shown(0.5, 400.0, 100.0), (350, 100));
-    assert_eq!(shown(0.0, 1000.0, 254.5), (1000, 255));
-    assert_eq!(shown(0.0, 1000.0, 255.5), (1000, 255));
-    assert_eq!(shown(0.0, 1000.0, 400.0), (1000, 255));
-    assert_eq!(shown(-0.0, 12.0, 3.25), (12, 4));
-    assert_eq!(shown(0.0, 1000.5, 3.25), (0, 0));
-    assert_eq!(shown(0.0, f32::NAN, 3.25), (0, 0));
-    assert_eq!(shown(0.0, 300.0, -1.0), (0, 0));
-    // Minus zero: 0, and good, so that phase 9 ends.
-    let minus = Case::new(9).input(|i| i.reading(-0.0, -0.0)).tick();
-    assert_eq!(minus.phase(), 10);
-    // In every phase, question 15 asked or not.
-    for phase in 1..=9 {
-        assert_eq!(Case::new(phase).tick().h109()[1..4], [200, 0, 10]);
-        for bit in [present::VOLTS, present::AMPERES] {
-            let missing = Case::new(phase).input(|i| i.missing(bit)).tick();
-            assert_eq!(missing.h109()[1..4], [0, 0, 0]);
-        }
-    }
-}
-
-#[test]
-fn flags_of_the_phase_and_the_lock_contact() {
-    for phase in 1..=9 {
-        let after = Case::new(phase).tick();
-        assert_eq!(after.flag(0), matches!(phase, 6 | 7));
-        // The contact of the input, not the lock line.
-        assert_eq!(after.flag(2), phase != 2);
-        assert_eq!(after.flag(5), phase != 6);
-        assert_eq!(after.h109()[5] & 0xC0, 0);
-    }
+    // The contact of the input, not the lock line.
     for phase in [1, 8, 9] {
-        let open = Case::new(phase)
-            .input(|i| i.open(contact::CONNECTOR_LOCK))
-            .tick();
-        assert_eq!(open.phase(), phase);
-        assert!(!open.flag(2));
-    }
-}
-
-#[test]
-fn flags_of_the_reason() {
-    for phase in 1..=9 {
-        for reason in std::iter::once(0).chain(11..=29) {
-            let after = Case::new(phase).byte(place::REASON, reason).tick();
-            assert_eq!(after.phase_and_reason(), (phase, reason));
-            assert_eq!(after.flag(1), matches!(reason, 13 | 15 | 16 | 17 | 18 | 27));
-            assert_eq!(after.flag(3), reason == 21);
-            assert_eq!(after.flag(4), matches!(reason, 19 | 28));
-        }
+        assert_eq!(Case::new(phase).open(CONNECTOR_LOCK).tick().h109()[5], 0b100000);
     }
 }
 
 #[test]
 fn remaining_time() {
-    let shown = |after: After| [after.h109()[6], after.h109()[7]];
-    let with = |phase, byte_1, byte_2| {
-        Case::new(phase)
-            .byte(place::TIME_BYTE_1, byte_1)
-            .byte(place::TIME_BYTE_2, byte_2)
-    };
+    let shown: fn(&After) -> [u8; 2] = |after| [after.h109()[6], after.h109()[7]];
     for phase in 2..=5 {
-        assert_eq!(shown(with(phase, 6, 9).age(10).tick()), [6, 0]);
-        assert_eq!(shown(with(phase, 0xFF, 9).age(10).tick()), [0xFF, 9]);
-        // Seen or not.
-        assert_eq!(shown(with(phase, 6, 9).byte(place::SEEN, 5).tick()), [6, 0]);
+        // The whole time, H'101 seen or not.
+        check(shown, &[
+            (phase, |c| c.time(6, 9).age(10), [6, 0]), (phase, |c| c.time(0xFF, 9).age(10), [0xFF, 9]),
+            (phase, |c| c.time(6, 9).byte(SEEN, 5), [6, 0]),
+        ]);
     }
     for phase in [1, 7, 8, 9] {
-        assert_eq!(shown(with(phase, 0xFF, 9).tick()), [0, 0]);
-        assert_eq!(shown(with(phase, 6, 9).tick()), [0, 0]);
+        check(shown, &[(phase, |c| c.time(0xFF, 9), [0, 0]), (phase, |c| c.time(6, 9), [0, 0])]);
     }
-    // In phase 6 the age after the tick is taken off.
-    assert_eq!(shown(with(6, 6, 9).tick()), [5, 0]);
-    assert_eq!(shown(with(6, 6, 9).age(99).tick()), [5, 0]);
-    assert_eq!(shown(with(6, 6, 9).age(100).tick()), [4, 0]);
-    assert_eq!(shown(with(6, 6, 9).age(599).tick()), [0, 0]);
-    assert_eq!(shown(with(6, 0xFF, 6).age(599).tick()), [0xFF, 5]);
-    assert_eq!(shown(with(6, 0xFF, 6).age(600).tick()), [0xFF, 4]);
-    assert_eq!(shown(with(6, 0xFF, 6).age(3_599).tick()), [0xFF, 0]);
-    // The move to 6 shows the whole time, a stop none.
-    assert_eq!(shown(with(5, 6, 9).status(0, ENABLED).tick()), [6, 0]);
-    assert_eq!(shown(with(6, 0xFF, 6).age(3_600).tick()), [0, 0]);
+    // In phase 6 the age after the tick is taken off. The move to 6 shows the whole time, a stop none.
+    check(shown, &[
+        (6, |c| c.time(6, 9), [5, 0]), (6, |c| c.time(6, 9).age(99), [5, 0]), (6, |c| c.time(6, 9).age(100), [4, 0]),
+        (6, |c| c.time(6, 9).age(599), [0, 0]), (6, |c| c.time(0xFF, 6).age(599), [0xFF, 5]),
+        (6, |c| c.time(0xFF, 6).age(600), [0xFF, 4]), (6, |c| c.time(0xFF, 6).age(3_599), [0xFF, 0]),
+        (5, |c| c.time(6, 9).hears(ENABLED), [6, 0]), (6, |c| c.time(0xFF, 6).age(3_600), [0, 0]),
+    ]);
 }

@@ -12,5 +12,6 @@ abbrev μ-loop : tie.MeasureT-loop
 
 pub set-up-spec : {M : Type 1} → statement M
 set-up-spec =
-    tie.close (tie.spec Inv-loop μ-loop (search needs) (search needs) (search needs) (search needs) (search needs) (search needs)
-    (search needs) (search needs) (search needs) (search needs) (search needs) (search needs) (search needs) (search needs))
+    tie.close
+    (tie.spec Inv-loop μ-loop search needs search needs search needs search needs search needs search needs search needs search needs search
+    needs search needs search needs search needs search needs search needs)

@@ -1,0 +1,19 @@
+-- `cases::sessions::stopped` meets its contract. One step a turn; the state keeps its size. Assumes nothing.
+use borrow.Author.Needs.{needs}
+use Prim.Native.Nat.{_-_}
+use mathlib.Core.Path.{_≡_}
+use lib.ListN.{length}
+use Rattle.cases.proofs.sessions.stopped.Statement.{statement}
+use Rattle.cases.proofs.sessions.stopped.Tie as tie
+
+abbrev Inv-loop : tie.InvT-loop
+Inv-loop state₀ at₀ state at = length state ≡ 72
+
+abbrev μ-loop : tie.MeasureT-loop
+μ-loop state₀ at₀ state at = 4 - at
+
+pub stopped-spec : {M : Type 1} → statement M
+stopped-spec =
+    tie.close
+    (tie.spec Inv-loop μ-loop (search needs) (search needs) (search needs) (search needs) (search needs) (search needs) (search needs)
+    (search needs) (search needs) (search needs))
