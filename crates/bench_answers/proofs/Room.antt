@@ -8,7 +8,7 @@ use lib.Dec.{ltb, eqb}
 use lib.ListN.{length, take, length-append, length-replicate}
 use Rattle.post.specs.Heads.{mostLeads, stateLength, inputLength, outputLength, headFrom}
 use Rattle.post.specs.Calls.{SetUp, setupOf, Ticked, tickOf}
-use Rattle.post.specs.declared.head.SetupNumbers.{SetupNumbers}
+use Rattle.setup_numbers.specs.declared.SetupNumbers.{SetupNumbers}
 use Rattle.post.proofs.Returned.{shown-length}
 use Rattle.bench_line.specs.Digits.{digit}
 use Rattle.bench_line.specs.Lines.{parsedOf}

@@ -16,7 +16,7 @@ use Rattle.post.specs.Rules.{postBytes}
 use Rattle.post.specs.Refusals.{headRows, setupRows}
 use Rattle.post.specs.Calls.{SetUp, setupOf}
 use Rattle.post.specs.declared.head.Head.{Head}
-use Rattle.post.specs.declared.head.SetupNumbers.{SetupNumbers}
+use Rattle.setup_numbers.specs.declared.SetupNumbers.{SetupNumbers}
 use Rattle.post.proofs.Taken.{head-met, setup-head}
 use Rattle.bench_line.specs.Answers.{Written, writtenOf, answerText}
 use Rattle.bench_line.specs.declared.answers.Answer.the-variants.{Returned}

@@ -6,7 +6,7 @@ use lib.Dec.{eqb}
 use lib.ListN.{take, replicate}
 use Rattle.post.specs.Heads.{stateLength, inputLength, outputLength, headFrom}
 use Rattle.post.specs.Calls.{SetUp, setupOf, Ticked, tickOf}
-use Rattle.post.specs.declared.head.SetupNumbers.{SetupNumbers}
+use Rattle.setup_numbers.specs.declared.SetupNumbers.{SetupNumbers}
 use Rattle.bench_line.specs.Lines.{Parsed, parsedOf}
 use Rattle.bench_line.specs.Answers.{answerText}
 use Rattle.bench_line.specs.declared.lines.Line.{Line}

@@ -1,11 +1,11 @@
 // The post's two calls, on buffers with room for as many leads as a post may have.
 use post::MOST_LEADS;
-use post::SetupNumbers;
 use post::input_length;
 use post::output_length;
 use post::setup;
 use post::state_length;
 use post::tick;
+use setup_numbers::SetupNumbers;
 ghost use mathlib.Core.Path.{_≡_};
 ghost use Prim.Native.Nat.{_≤_, min, max};
 ghost use lib.ListN.{length, take, drop};

@@ -1,5 +1,5 @@
-// The bench program's language: one line parsed, one answer as text. Document 01, 'Bench program'. Knows of the post the struct of setup's
-// numbers alone, and of input and output no more than slices.
+// The bench program's language: one line parsed, one answer as text. Document 01, 'Bench program'. Knows nothing of the
+// post, and of input and output no more than slices.
 mod answers;
 mod digits;
 mod fields;

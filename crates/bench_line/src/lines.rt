@@ -7,7 +7,7 @@ use super::numbers::Number;
 use super::numbers::are_pairs;
 use super::numbers::bits;
 use super::numbers::write_bytes;
-use post::SetupNumbers;
+use setup_numbers::SetupNumbers;
 ghost use mathlib.Core.Path.{_≡_};
 ghost use Rattle.bench_line.specs.Lines.{fieldsOf, afterAmperes, afterVolts, afterLeads, setupLine, Parsed, tickLine, parsedOf};
 

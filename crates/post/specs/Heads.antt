@@ -7,7 +7,7 @@ use Rattle.lead_records.specs.Inputs.{inputSize}
 use Rattle.lead_records.specs.Outputs.{outputSize}
 use Rattle.common.specs.Parts.{part}
 use Rattle.post.specs.declared.head.Head.{Head}
-use Rattle.post.specs.declared.head.SetupNumbers.{SetupNumbers}
+use Rattle.setup_numbers.specs.declared.SetupNumbers.{SetupNumbers}
 
 -- "1 to 4 leads"
 abbrev pub mostLeads : ℕ

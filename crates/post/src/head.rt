@@ -10,20 +10,13 @@ use little_endian::u16_at;
 use little_endian::u32_at;
 use little_endian::u32_bytes;
 use readings::is_allowed_resistance;
+use setup_numbers::SetupNumbers;
 ghost use mathlib.Core.Path.{_≡_};
 ghost use Prim.Native.Nat.{_≤_};
 ghost use lib.ListN.{length};
 ghost use Rattle.common.specs.Refusals.{refusalOf};
 ghost use Rattle.post.specs.Heads.{headSize, headFrom, headOf, headBytes};
 ghost use Rattle.post.specs.Refusals.{headRows, goodHead};
-
-// The numbers that setup is given, none of them cut off. The resistance is the cable's, as its float's bits.
-pub struct SetupNumbers {
-    pub leads: u32,
-    pub volts: u32,
-    pub amperes: u32,
-    pub resistance: u32,
-}
 
 // How many leads there are, and what setup fixed for all of them.
 pub struct Head {

@@ -1,5 +1,5 @@
 // The post: one to four leads, and the two calls of the C host. Document 01, 'The post's two calls'.
-// Rests on the promises of `lead`, `lead_records`, `sharing`, `readings`, `little_endian`, `common` and `bytes`.
+// Rests on the promises of `lead`, `lead_records`, `sharing`, `readings`, `setup_numbers`, `little_endian`, `common` and `bytes`.
 mod fresh;
 mod head;
 mod lengths;
@@ -11,7 +11,6 @@ mod written;
 
 use fresh::write_fresh;
 use head::Head;
-pub use head::SetupNumbers;
 pub use lengths::HEAD_SIZE;
 pub use lengths::LIMIT_SIZE;
 pub use lengths::MOST_LEADS;
@@ -23,6 +22,7 @@ pub use lengths::state_length;
 use names::Refusal;
 use refusals::setup_refusal;
 use refusals::tick_refusal;
+use setup_numbers::SetupNumbers;
 use ticks::carry_out;
 ghost use mathlib.Core.Path.{_≡_};
 ghost use Rattle.post.specs.Heads.{headFrom};

@@ -1,6 +1,5 @@
 // What setup and tick ask before they do anything. Each answers with the number of the first no, 0 where there is none.
 use super::head::Head;
-use super::head::SetupNumbers;
 use super::head::head_refusal;
 use super::lengths::LIMIT_SIZE;
 use super::lengths::input_length;
@@ -10,6 +9,7 @@ use super::names::Refusal;
 use common::unless;
 use lead_records::InputRecord;
 use lead_records::StateRecord;
+use setup_numbers::SetupNumbers;
 ghost use mathlib.Core.Path.{_≡_};
 ghost use lib.ListN.{length};
 ghost use Rattle.common.specs.Parts.{every};

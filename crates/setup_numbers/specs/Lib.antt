@@ -1,0 +1,1 @@
+-- No definitions: the struct alone.
