@@ -109,3 +109,12 @@ upTo-at (suc n) f t k h = go (at-or-past k (suc n) h) (upTo-at n f (and-r (f (su
     go : (suc n ≡ k) ⊎ (suc k ≤ suc n) → (k ≤ n → T (f k)) → T (f k)
     go (inl e) r = subst (λ (m : ℕ). T (f m)) e (and-l (f (suc n)) (upTo n f) t)
     go (inr g) r = r (omega arith)
+
+-- what the last arm of a `match` knows that has one for each number below n
+abbrev pub NoneBelow : ℕ → ℕ → Type 0
+NoneBelow zero x = Unit
+NoneBelow (suc n) x = NoneBelow n x × (x ≡ n → ⊥)
+
+pub none-below : (n x : ℕ) → NoneBelow n x → n ≤ x
+none-below zero x r = omega arith
+none-below (suc n) x r = let b : n ≤ x = none-below n x (r .0) in let d : x ≡ n → ⊥ = r .1 in omega arith

@@ -74,7 +74,21 @@ module _ (size : ℕ) (F : ℕ → List ℕ) (sized : (k : ℕ) → length (F k)
     filled-length i h g =
         rw (length-append (take head bytes ++ joined i F) (drop (head + size * i) bytes), begun i h, length-drop) (omega arith)
 
-    -- one turn of a loop that copies: w is copied to the place of record i, p stands there then
+    -- one turn of a loop that writes record i, p, at its place
+    pub filled-written :
+        (i at room : ℕ) (now p : List ℕ)
+        → head ≤ length bytes
+        → head + size * (i + 1) ≤ length bytes
+        → at ≡ head + size * i
+        → room ≡ size
+        → p ≡ F i
+        → Filling head size F bytes now i
+        → Filling head size F bytes (take at now ++ (p ++ drop room (drop at now))) (i + 1)
+    filled-written i at room now p h g ea er ep before =
+        let more = filled-more i at room now p h ea er ep (before .1) in
+        (ap length more ∙ filled-length (i + 1) h g, more)
+
+    -- and that copies it there, from w
     pub filled-copy :
         (i at room : ℕ) (now w p : List ℕ)
         → head ≤ length bytes
@@ -94,8 +108,7 @@ module _ (size : ℕ) (F : ℕ → List ℕ) (sized : (k : ℕ) → length (F k)
         ∙ append-nil _
         ∙ take-length w
         ∙ ew in
-        let more = filled-more i at room now p h ea er whole (before .1) in
-        (ap length more ∙ filled-length (i + 1) h g, more)
+        filled-written i at room now p h g ea er whole before
 
     pub filled-all :
         (n i : ℕ) (now : List ℕ)

@@ -1,3 +1,3 @@
 -- Laws: the search for the newest frame, and the bounds of times.
-pub mod Newest
+pub mod Found
 pub mod TimeBounds

@@ -1,4 +1,5 @@
 pub mod Records
+pub mod Search
 pub mod Times
 pub mod Heard
 pub mod Sent

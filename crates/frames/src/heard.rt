@@ -1,12 +1,11 @@
-// The frames that a car sends: H'100, H'101 and H'102. Each is heard in a tick, or is absent.
+// The frames that a car sends: H'100, H'101 and H'102. Each is heard in a tick, or is absent; read from its record, which is empty then.
 use super::records::FrameRecord;
-use super::records::newest_record;
 use super::times::ChargingTime;
 use super::times::Minutes;
 use super::times::TensOfSeconds;
 use little_endian::u16_at;
 ghost use mathlib.Core.Path.{_≡_};
-ghost use Rattle.frames.specs.Heard.{newestBattery, newestTime, newestStatus, signalsOf};
+ghost use Rattle.frames.specs.Heard.{batteryIn, timeIn, statusIn, signalsOf};
 
 // H'100: maximum battery voltage, in volts.
 pub enum BatteryFrame {
@@ -44,14 +43,13 @@ pub struct VehicleSignals {
 }
 
 impl BatteryFrame {
-    const IDENTIFIER: u16 = 0x100;
+    pub(crate) const IDENTIFIER: u16 = 0x100;
 
     const MAXIMUM_VOLTAGE: usize = 4;
 
-    pub fn newest(records: &[u8], count: u8) -> BatteryFrame
-        ensures { λ r. ⌜ r ≡ newestBattery count (now (records .entry)) ⌝ }
+    pub(crate) fn read(frame: &[u8]) -> BatteryFrame
+        ensures { λ r. ⌜ r ≡ batteryIn (now (frame .entry)) ⌝ }
     {
-        let frame = newest_record(records, count, BatteryFrame::IDENTIFIER);
         if frame.len() != FrameRecord::SIZE {
             return BatteryFrame::Absent;
         }
@@ -60,16 +58,15 @@ impl BatteryFrame {
 }
 
 impl TimeFrame {
-    const IDENTIFIER: u16 = 0x101;
+    pub(crate) const IDENTIFIER: u16 = 0x101;
 
     const TENS_OF_SECONDS: usize = 1;
 
     const MINUTES: usize = 2;
 
-    pub fn newest(records: &[u8], count: u8) -> TimeFrame
-        ensures { λ r. ⌜ r ≡ newestTime count (now (records .entry)) ⌝ }
+    pub(crate) fn read(frame: &[u8]) -> TimeFrame
+        ensures { λ r. ⌜ r ≡ timeIn (now (frame .entry)) ⌝ }
     {
-        let frame = newest_record(records, count, TimeFrame::IDENTIFIER);
         if frame.len() != FrameRecord::SIZE {
             return TimeFrame::Absent;
         }
@@ -81,7 +78,7 @@ impl TimeFrame {
 }
 
 impl StatusFrame {
-    const IDENTIFIER: u16 = 0x102;
+    pub(crate) const IDENTIFIER: u16 = 0x102;
 
     const TARGET_VOLTAGE: usize = 1;
 
@@ -91,10 +88,9 @@ impl StatusFrame {
 
     const STATUS: usize = 5;
 
-    pub fn newest(records: &[u8], count: u8) -> StatusFrame
-        ensures { λ r. ⌜ r ≡ newestStatus count (now (records .entry)) ⌝ }
+    pub(crate) fn read(frame: &[u8]) -> StatusFrame
+        ensures { λ r. ⌜ r ≡ statusIn (now (frame .entry)) ⌝ }
     {
-        let frame = newest_record(records, count, StatusFrame::IDENTIFIER);
         if frame.len() != FrameRecord::SIZE {
             return StatusFrame::Absent;
         }

@@ -1,6 +1,7 @@
 // CAN frames of document 01, 'Frames', laid out as IEEE 2030.1.1 does (source document 001, Tables A.31 and A.32):
 // the three that a car sends, read, and the two that the post sends, as bytes. Rests on little_endian and common.
 mod heard;
+mod newest;
 mod records;
 mod sent;
 mod times;
@@ -10,6 +11,7 @@ pub use heard::StatusFrame;
 pub use heard::TimeFrame;
 pub use heard::VehicleSignals;
 pub use heard::VehicleStatus;
+pub use newest::HeardFrames;
 pub use records::FrameRecord;
 pub use sent::ChargerFlags;
 pub use sent::Offer;

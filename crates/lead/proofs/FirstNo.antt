@@ -1,51 +1,50 @@
--- The verdicts of the questions, from the last to the first, each before those of the questions after it. Assumes nothing.
-use mathlib.Core.Path.{_≡_, ap, _∙_}
-use Prim.Native.Nat.{ℕ}
-use lib.ListN.{drop, getD}
-use Rattle.lead.specs.Questions.{urgentCount, noQuestion, questions, firstOr, firstNo, ask}
+-- The questions from one number on, row by row. Assumes nothing.
+use mathlib.Core.Path.{_≡_, sym, ap, _∙_}
+use mathlib.Core.Bool.{Bool, true, false, cond}
+use Prim.Native.Nat.{ℕ, _+_, _-_, _≤_}
+use native.Mathlib.Omega.{arith}
+use native.Mathlib.Numerals.{add-one}
+use lib.Dec.{T}
+use lib.ListN.{getD}
+use lib.Seq.{drop-cons}
+use Rattle.common.specs.Tests.{between}
+use Rattle.common.proofs.Bools.{between-lo, between-hi}
+use Rattle.lead.specs.Questions.{Question, noQuestion, questions, questionsFrom, isNo, stopOf, firstNo}
 use Rattle.lead.specs.declared.state.HeardLead.{HeardLead}
 use Rattle.lead.specs.declared.questions.View.{View}
 use Rattle.lead.specs.declared.questions.Verdict.{Verdict}
-use Rattle.lead.specs.declared.questions.Verdict.the-variants.{Pass}
 
 module _ (v : View) (h : HeardLead) where
-  -- row n, before a verdict
-  abbrev asked : ℕ → Verdict → Verdict
-  asked n = firstOr (h .lead .stage .phase) (getD (questions v h) n noQuestion)
+  abbrev question : ℕ → Question
+  question n = getD (questions v h) (n - 11) noQuestion
 
-  pub ordinary-asked :
-      {r18 r17 r16 r15 r14 r13 r12 r11 r10 r9 r8 : Verdict}
-      → r18 ≡ asked 18 Pass
-      → r17 ≡ asked 17 r18
-      → r16 ≡ asked 16 r17
-      → r15 ≡ asked 15 r16
-      → r14 ≡ asked 14 r15
-      → r13 ≡ asked 13 r14
-      → r12 ≡ asked 12 r13
-      → r11 ≡ asked 11 r12
-      → r10 ≡ asked 10 r11
-      → r9 ≡ asked 9 r10
-      → r8 ≡ asked 8 r9
-      → r8 ≡ firstNo (h .lead .stage .phase) (drop urgentCount (questions v h))
-  unfolding questions
-  ordinary-asked e18 e17 e16 e15 e14 e13 e12 e11 e10 e9 e8 =
-      e8 ∙ ap (asked 8) (e9 ∙ ap (asked 9) (e10 ∙ ap (asked 10) (e11 ∙ ap (asked 11)
-      (e12 ∙ ap (asked 12) (e13 ∙ ap (asked 13) (e14 ∙ ap (asked 14) (e15 ∙ ap (asked 15)
-      (e16 ∙ ap (asked 16) (e17 ∙ ap (asked 17) e18)))))))))
+  abbrev from : ℕ → Verdict
+  from n = firstNo (h .lead .stage .phase) (questionsFrom n v h)
 
-  pub urgent-asked :
-      {r8 r7 r6 r5 r4 r3 r2 r1 r0 : Verdict}
-      → r8 ≡ firstNo (h .lead .stage .phase) (drop urgentCount (questions v h))
-      → r7 ≡ asked 7 r8
-      → r6 ≡ asked 6 r7
-      → r5 ≡ asked 5 r6
-      → r4 ≡ asked 4 r5
-      → r3 ≡ asked 3 r4
-      → r2 ≡ asked 2 r3
-      → r1 ≡ asked 1 r2
-      → r0 ≡ asked 0 r1
-      → r0 ≡ ask v h
-  unfolding ask questions
-  urgent-asked e8 e7 e6 e5 e4 e3 e2 e1 e0 =
-      e0 ∙ ap (asked 0) (e1 ∙ ap (asked 1) (e2 ∙ ap (asked 2) (e3 ∙ ap (asked 3)
-      (e4 ∙ ap (asked 4) (e5 ∙ ap (asked 5) (e6 ∙ ap (asked 6) (e7 ∙ ap (asked 7) e8)))))))
+  -- asked from question `first` on, those before n pass; b is whether n gets a no
+  abbrev pub Row : ℕ → ℕ → Bool → Type 0
+  Row first n b = from first ≡ cond b (stopOf (question n)) (from (n + 1))
+
+  module _ (n : ℕ) (t : T (between 11 29 n)) {b : Bool} (e : b ≡ isNo (h .lead .stage .phase) (question n)) where
+    pub first-row : Row n n b
+    unfolding questions
+    first-row =
+        let lo : 11 ≤ n = between-lo 11 29 n t in
+        let hi : n ≤ 29 = between-hi 11 29 n t in
+        let next : n + 1 - 11 ≡ n - 11 + 1 = omega arith in
+        rw (e, next, add-one (n - 11)) (ap (firstNo (h .lead .stage .phase)) (drop-cons (questions v h) (n - 11) noQuestion (omega arith)))
+
+  module _ (first n : ℕ) {b : Bool} (row : Row first n b) where
+    pub stops : b ≡ true → stopOf (question n) ≡ from first
+    stops y = sym (rw y at row)
+
+    pub passes : b ≡ false → from (n + 1) ≡ from first
+    passes y = sym (rw y at row)
+
+    pub next-row :
+        b ≡ false
+        → T (between 11 29 (n + 1))
+        → {d : Bool}
+        → d ≡ isNo (h .lead .stage .phase) (question (n + 1))
+        → Row first (n + 1) d
+    next-row y t e = sym (passes y) ∙ first-row (n + 1) t e

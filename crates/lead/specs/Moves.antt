@@ -10,6 +10,7 @@ use Rattle.lead.specs.Figures.{dischargedVolts, residualAmperes, rampDow
 use Rattle.lead.specs.Leads.{blank, withStage, withCommand, withThreshold}
 use Rattle.lead.specs.Hearing.{hear}
 use Rattle.lead.specs.Questions.{viewOf, ask, reasonOf}
+use Rattle.lead.specs.declared.moves.Exits.{Exits}
 use Rattle.lead.specs.declared.state.Lead.{Lead}
 use Rattle.lead.specs.declared.state.HeardLead.{HeardLead}
 use Rattle.lead.specs.declared.state.Ratings.{Ratings}
@@ -60,6 +61,10 @@ urgentTo = 0 ∷ 10 ∷ 9 ∷ 9 ∷ 9 ∷ 9 ∷ 9 ∷ 9 ∷ 9 ∷ 9 ∷ 10 ∷ [
 -- "Others lead from 2–5 to 8, from 6 to 7."
 abbrev pub ordinaryTo : List ℕ
 ordinaryTo = 0 ∷ 10 ∷ 8 ∷ 8 ∷ 8 ∷ 8 ∷ 7 ∷ 7 ∷ 8 ∷ 9 ∷ 10 ∷ []
+
+-- the three side by side
+abbrev pub exitsOf : ℕ → Exits
+exitsOf p = record { 0 = getD moveTo p 0; 1 = getD urgentTo p 0; 2 = getD ordinaryTo p 0 }
 
 -- "without a stop, move at most once"
 unfoldable pub nextPhase : ℕ → Verdict → Bool → ℕ

@@ -3,7 +3,7 @@ use mathlib.Core.Bool.{Bool, true, false, not, cond, _&&_, _||_}
 use mathlib.Core.List.{List, [], _∷_}
 use Prim.Native.Nat.{ℕ, _-_, min}
 use lib.Dec.{leb, ltb, eqb}
-use lib.ListN.{getD}
+use lib.ListN.{getD, drop}
 use Rattle.common.specs.Tests.{between}
 use Rattle.readings.specs.Readings.{insulated}
 use Rattle.readings.specs.declared.Reading.{Reading}
@@ -41,7 +41,7 @@ thresholdNow c heard =
 
 -- question 28: "100, 20, 150, 50, 100 in phases 1 to 5", by phase
 abbrev pub ticksAllowed : List ℕ
-ticksAllowed = 0 ∷ 100 ∷ 20 ∷ 150 ∷ 50 ∷ 100 ∷ 0 ∷ 0 ∷ 0 ∷ 0 ∷ 0 ∷ []
+ticksAllowed = 0 ∷ 100 ∷ 20 ∷ 150 ∷ 50 ∷ 100 ∷ []
 
 -- what the questions and the moves look at beside the lead's own numbers
 unfoldable pub viewOf : Ratings → Input → HeardLead → View
@@ -125,9 +125,9 @@ questions v heard =
     ∷ ordinaryRow chargingTimeOver 6 6 (ltb (s .stage .age) (v .time))
     ∷ []
 
--- "11–18 are urgent": as many stand before the others
-abbrev pub urgentCount : ℕ
-urgentCount = 8
+-- those from number n on; they stand in the order of their numbers
+abbrev pub questionsFrom : ℕ → View → HeardLead → List Question
+questionsFrom n v heard = drop (n - 11) (questions v heard)
 
 -- asked in the phase, and the answer is no
 abbrev pub isNo : ℕ → Question → Bool
@@ -136,14 +136,10 @@ isNo p q = between (q .first) (q .last) p && not (q .answer)
 abbrev pub stopOf : Question → Verdict
 stopOf q = cond (q .urgent) (Urgent (q .reason)) (Ordinary (q .reason))
 
--- the stop of a question that gets a no, else another verdict
-abbrev pub firstOr : ℕ → Question → Verdict → Verdict
-firstOr p q later = cond (isNo p q) (stopOf q) later
-
 -- "The first "no" is the stop."
 abbrev pub firstNo : ℕ → List Question → Verdict
 firstNo p [] = Pass
-firstNo p (q ∷ rows) = firstOr p q (firstNo p rows)
+firstNo p (q ∷ rows) = cond (isNo p q) (stopOf q) (firstNo p rows)
 
 unfoldable pub ask : View → HeardLead → Verdict
 ask v heard = firstNo (heard .lead .stage .phase) (questions v heard)
@@ -158,6 +154,6 @@ reasonOf (Ordinary reason) = reason
 abbrev pub noQuestion : Question
 noQuestion = ordinaryRow noReason 0 0 true
 
--- question n is asked in the tick and gets a no; the rows stand in the order of their numbers
+-- question n is asked in the tick and gets a no
 unfoldable pub gotNo : Ratings → Input → Lead → ℕ → Bool
 gotNo c i s n = leb 11 n && isNo (s .stage .phase) (getD (questions (viewOf c i (hear i s)) (hear i s)) (n - 11) noQuestion)

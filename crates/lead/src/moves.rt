@@ -2,8 +2,6 @@
 use super::figures::Figure;
 use super::names::Phase;
 use super::names::Reason;
-use super::numbers::at_phase;
-use super::numbers::holds_at;
 use super::questions::Verdict;
 use super::questions::View;
 use super::state::HeardLead;
@@ -13,61 +11,54 @@ use super::state::Ratings;
 use super::state::Stage;
 ghost use mathlib.Core.Path.{_≡_};
 ghost use mathlib.Core.Bool.{cond};
-ghost use Rattle.lead.specs.Moves.{moves, mayMove, nextPhase, reasonAfter, ageAfter, goOn, advance, decide};
-
-// Where each phase leads, 0 to 10: by its move, by an urgent stop, by another. A phase without such a move or stop stays.
-const MOVE_TO: [u8; Phase::COUNT] = [1, 2, 3, 4, 5, 6, 6, 8, 9, 10, 0];
-
-const URGENT_TO: [u8; Phase::COUNT] = [0, 10, 9, 9, 9, 9, 9, 9, 9, 9, 10];
-
-const ORDINARY_TO: [u8; Phase::COUNT] = [0, 10, 8, 8, 8, 8, 7, 7, 8, 9, 10];
+ghost use Rattle.lead.specs.Moves.{mayMove, exitsOf, nextPhase, reasonAfter, ageAfter, goOn, advance, decide};
 
 impl HeardLead {
-    // What each phase's move wants, phases 0 to 10.
-    fn moves(self, view: View) -> [bool; Phase::COUNT]
-        ensures { λ r. ⌜ r ≡ moves view self ⌝ }
+    // Whether what the phase's move wants is there.
+    fn may_move(self, view: View) -> bool
+        ensures { λ r. ⌜ r ≡ mayMove view self ⌝ }
     {
         let contacts = view.contacts;
         let meter = view.meter;
         let signals = view.signals;
         let lead = self.lead;
         let car = lead.car;
+        let phase = lead.stage.phase;
         let age = lead.stage.age;
-        [
+        match phase {
             // 0 to 1
-            contacts.start & contacts.plug & !contacts.emergency,
+            Phase::IDLE => contacts.start & contacts.plug & !contacts.emergency,
             // 1 to 2
-            car.battery.seen
-                & car.time.seen
-                & car.status.seen
-                & contacts.permission
-                & signals.enabled,
+            Phase::HANDSHAKE => {
+                car.battery.seen
+                    & car.time.seen
+                    & car.status.seen
+                    & contacts.permission
+                    & signals.enabled
+            }
             // 2 to 3
-            contacts.lock,
+            Phase::LOCKING => contacts.lock,
             // 3 to 4
-            view.present,
+            Phase::INSULATION_TEST => view.present,
             // 4 to 5
-            meter.volts <= Figure::DISCHARGED_VOLTS,
+            Phase::TEST_DISCHARGE => meter.volts <= Figure::DISCHARGED_VOLTS,
             // 5 to 6
-            signals.closed,
+            Phase::CONTACTOR_CLOSING => signals.closed,
             // 6: none
-            false,
+            Phase::CHARGING => false,
             // 7 to 8
-            ((lead.command == 0) & (meter.amperes <= Figure::RESIDUAL_AMPERES))
-                | (Figure::RAMP_DOWN_END <= age),
+            Phase::RAMP_DOWN => {
+                ((lead.command == 0) & (meter.amperes <= Figure::RESIDUAL_AMPERES))
+                    | (Figure::RAMP_DOWN_END <= age)
+            }
             // 8 to 9
-            !signals.closed | (Figure::WELD_CHECK_END <= age),
+            Phase::WELD_CHECK => !signals.closed | (Figure::WELD_CHECK_END <= age),
             // 9 to 10
-            meter.good & (meter.volts <= Figure::DISCHARGED_VOLTS),
+            Phase::FINAL_DISCHARGE => meter.good & (meter.volts <= Figure::DISCHARGED_VOLTS),
             // 10 to 0
-            !contacts.plug,
-        ]
-    }
-
-    fn may_move(self, view: View) -> bool
-        ensures { λ r. ⌜ r ≡ mayMove view self ⌝ }
-    {
-        holds_at(self.moves(view), self.lead.stage.phase)
+            Phase::ENDED => !contacts.plug,
+            _ => false,
+        }
     }
 
     // A lead that is not started: its threshold is kept on the move to 2, outside 6 and 7 its command is 0.
@@ -113,14 +104,37 @@ impl Lead {
     }
 }
 
+// The phases that one leads to: by its move, by an urgent stop, by another. Without such a move or stop it stays.
+struct Exits(u8, u8, u8);
+
+fn exits_of(phase: u8) -> Exits
+    ensures { λ r. ⌜ r ≡ exitsOf phase ⌝ }
+{
+    match phase {
+        0 => Exits(1, 0, 0),
+        1 => Exits(2, 10, 10),
+        2 => Exits(3, 9, 8),
+        3 => Exits(4, 9, 8),
+        4 => Exits(5, 9, 8),
+        5 => Exits(6, 9, 8),
+        6 => Exits(6, 9, 7),
+        7 => Exits(8, 9, 7),
+        8 => Exits(9, 9, 8),
+        9 => Exits(10, 9, 9),
+        10 => Exits(0, 10, 10),
+        _ => Exits(0, 0, 0),
+    }
+}
+
 // The phase after the tick.
 fn next_phase(phase: u8, verdict: Verdict, may: bool) -> u8
     ensures { λ r. ⌜ r ≡ nextPhase phase verdict may ⌝ }
 {
+    let to = exits_of(phase);
     match verdict {
-        Verdict::Pass => { if may { at_phase(MOVE_TO, phase) } else { phase } }
-        Verdict::Urgent(_) => at_phase(URGENT_TO, phase),
-        Verdict::Ordinary(_) => at_phase(ORDINARY_TO, phase),
+        Verdict::Pass => { if may { to.0 } else { phase } }
+        Verdict::Urgent(_) => to.1,
+        Verdict::Ordinary(_) => to.2,
     }
 }
 

@@ -28,8 +28,6 @@ impl Phase {
     pub const FINAL_DISCHARGE: u8 = 9;
 
     pub const ENDED: u8 = 10;
-
-    pub const COUNT: usize = 11;
 }
 
 // The number of the stop question that got a no.

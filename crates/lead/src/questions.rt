@@ -2,7 +2,6 @@
 use super::figures::Figure;
 use super::names::Phase;
 use super::names::Reason;
-use super::numbers::at_phase;
 use super::numbers::lesser;
 use super::state::Contacts;
 use super::state::HeardLead;
@@ -14,9 +13,9 @@ use readings::Reading;
 use readings::is_insulated;
 ghost use mathlib.Core.Path.{_≡_};
 ghost use mathlib.Core.Bool.{not, _&&_};
-ghost use lib.ListN.{drop};
+ghost use lib.ListN.{getD};
 ghost use Rattle.common.specs.Tests.{between};
-ghost use Rattle.lead.specs.Questions.{meterOf, isPresent, thresholdNow, viewOf, urgentRow, ordinaryRow, urgentCount, questions, firstOr, firstNo, ask, reasonOf};
+ghost use Rattle.lead.specs.Questions.{meterOf, isPresent, thresholdNow, ticksAllowed, viewOf, questionsFrom, firstNo, ask, reasonOf};
 
 // The figures of a good reading, in steps.
 pub struct Meter {
@@ -87,6 +86,20 @@ fn is_present(insulation: Reading) -> bool
     }
 }
 
+// Question 28, by phase.
+fn ticks_allowed(phase: u8) -> u32
+    ensures { λ r. ⌜ r ≡ getD ticksAllowed phase 0 ⌝ }
+{
+    match phase {
+        1 => 100,
+        2 => 20,
+        3 => 150,
+        4 => 50,
+        5 => 100,
+        _ => 0,
+    }
+}
+
 // Whether a question with this bracket of phases is asked in the phase, and the answer is no.
 fn is_no(phase: u8, first: u8, last: u8, answer: bool) -> bool
     ensures { λ r. ⌜ r ≡ (between first last phase && not answer) ⌝ }
@@ -94,29 +107,7 @@ fn is_no(phase: u8, first: u8, last: u8, answer: bool) -> bool
     (first <= phase) & (phase <= last) & !answer
 }
 
-// A row of the list: the stop where its question gets a no, else the verdict of the rows after it.
-fn urgent_row(reason: u8, phase: u8, first: u8, last: u8, answer: bool, later: Verdict) -> Verdict
-    ensures { λ r. ⌜ r ≡ firstOr phase (urgentRow reason first last answer) later ⌝ }
-{
-    if is_no(phase, first, last, answer) {
-        return Verdict::Urgent(reason);
-    }
-    later
-}
-
-fn ordinary_row(reason: u8, phase: u8, first: u8, last: u8, answer: bool, later: Verdict) -> Verdict
-    ensures { λ r. ⌜ r ≡ firstOr phase (ordinaryRow reason first last answer) later ⌝ }
-{
-    if is_no(phase, first, last, answer) {
-        return Verdict::Ordinary(reason);
-    }
-    later
-}
-
 impl HeardLead {
-    // Question 28, by phase.
-    const TICKS_ALLOWED: [u8; Phase::COUNT] = [0, 100, 20, 150, 50, 100, 0, 0, 0, 0, 0];
-
     fn threshold_now(self, ratings: Ratings) -> u16
         ensures { λ r. ⌜ r ≡ thresholdNow ratings self ⌝ }
     {
@@ -143,42 +134,12 @@ impl HeardLead {
             threshold,
             present: is_present(insulation),
             insulated: is_insulated(threshold, insulation),
-            allowed: at_phase(HeardLead::TICKS_ALLOWED, self.lead.stage.phase) as u32,
+            allowed: ticks_allowed(self.lead.stage.phase),
             time: time.ticks().0,
         }
     }
 
-    // Questions 19 to 29, from the last to the first, as an earlier no replaces a later one.
-    fn ask_ordinary(self, view: View) -> Verdict
-        ensures { λ r. ⌜ r ≡ firstNo (self .lead .stage .phase) (drop urgentCount (questions view self)) ⌝ }
-    {
-        let lead = self.lead;
-        let p = lead.stage.phase;
-        let age = lead.stage.age;
-        let contacts = view.contacts;
-        let signals = view.signals;
-        let maximum = lead.car.battery.maximum;
-        let target = lead.car.status.value.target;
-        let in_range = (Figure::LEAST_VOLTS <= maximum)
-            & (Figure::LEAST_VOLTS <= target)
-            & (target <= view.threshold);
-        let compatible = !(lead.car.battery.seen & lead.car.status.seen) | in_range;
-        let recent = lead.car.silence < Figure::SILENCE_END;
-        let v = Verdict::Pass;
-        let v = ordinary_row(Reason::CHARGING_TIME_OVER, p, 6, 6, age < view.time, v);
-        let v = ordinary_row(Reason::PHASE_TIMEOUT, p, 1, 5, age < view.allowed, v);
-        let v = ordinary_row(Reason::LOW_INSULATION, p, 3, 3, view.insulated, v);
-        let v = ordinary_row(Reason::STOP_BUTTON, p, 1, 6, !contacts.stop, v);
-        let v = ordinary_row(Reason::CONTACTOR_OPEN, p, 6, 6, signals.closed, v);
-        let v = ordinary_row(Reason::STOP_REQUEST, p, 1, 6, !signals.stop, v);
-        let v = ordinary_row(Reason::NOT_ENABLED, p, 2, 6, signals.enabled, v);
-        let v = ordinary_row(Reason::NOT_IN_PARK, p, 1, 6, signals.parked, v);
-        let v = ordinary_row(Reason::INCOMPATIBLE_VOLTAGE, p, 1, 6, compatible, v);
-        let v = ordinary_row(Reason::CAR_FAULT, p, 1, 6, signals.clear, v);
-        ordinary_row(Reason::CAR_SILENT, p, 2, 6, recent, v)
-    }
-
-    // All of them: before those the urgent ones, 11 to 18.
+    // Every question, in the document's order: the first no is the stop. Here the urgent ones, 11 to 18.
     pub(crate) fn ask(self, view: View) -> Verdict
         ensures { λ r. ⌜ r ≡ ask view self ⌝ }
     {
@@ -188,14 +149,87 @@ impl HeardLead {
         let volts_fit = meter.volts <= Figure::UNIT * (view.threshold as u32);
         let amperes_fit = meter.amperes
             <= Figure::UNIT * (view.rated as u32) + Figure::MORE_AMPERES;
-        let v = self.ask_ordinary(view);
-        let v = urgent_row(Reason::UNLOCKED, p, 3, 7, contacts.lock, v);
-        let v = urgent_row(Reason::OVERCURRENT, p, 5, 7, amperes_fit, v);
-        let v = urgent_row(Reason::OVERVOLTAGE, p, 5, 7, volts_fit, v);
-        let v = urgent_row(Reason::BAD_READING, p, 3, 7, meter.good, v);
-        let v = urgent_row(Reason::PERMISSION_OPEN, p, 2, 7, contacts.permission, v);
-        let v = urgent_row(Reason::GROUND_FAULT, p, 1, 8, !contacts.leakage, v);
-        let v = urgent_row(Reason::UNPLUGGED, p, 1, 8, contacts.plug, v);
-        urgent_row(Reason::EMERGENCY_BUTTON, p, 1, 8, !contacts.emergency, v)
+        if is_no(p, 1, 8, !contacts.emergency) {
+            return Verdict::Urgent(Reason::EMERGENCY_BUTTON);
+        }
+        if is_no(p, 1, 8, contacts.plug) {
+            return Verdict::Urgent(Reason::UNPLUGGED);
+        }
+        if is_no(p, 1, 8, !contacts.leakage) {
+            return Verdict::Urgent(Reason::GROUND_FAULT);
+        }
+        if is_no(p, 2, 7, contacts.permission) {
+            return Verdict::Urgent(Reason::PERMISSION_OPEN);
+        }
+        if is_no(p, 3, 7, meter.good) {
+            return Verdict::Urgent(Reason::BAD_READING);
+        }
+        if is_no(p, 5, 7, volts_fit) {
+            return Verdict::Urgent(Reason::OVERVOLTAGE);
+        }
+        if is_no(p, 5, 7, amperes_fit) {
+            return Verdict::Urgent(Reason::OVERCURRENT);
+        }
+        if is_no(p, 3, 7, contacts.lock) {
+            return Verdict::Urgent(Reason::UNLOCKED);
+        }
+        self.ask_car(view)
+    }
+
+    // On what the car says, 19 to 25.
+    fn ask_car(self, view: View) -> Verdict
+        ensures { λ r. ⌜ r ≡ firstNo (self .lead .stage .phase) (questionsFrom 19 view self) ⌝ }
+    {
+        let p = self.lead.stage.phase;
+        let signals = view.signals;
+        let car = self.lead.car;
+        let target = car.status.value.target;
+        let in_range = (Figure::LEAST_VOLTS <= car.battery.maximum)
+            & (Figure::LEAST_VOLTS <= target)
+            & (target <= view.threshold);
+        if is_no(p, 2, 6, car.silence < Figure::SILENCE_END) {
+            return Verdict::Ordinary(Reason::CAR_SILENT);
+        }
+        if is_no(p, 1, 6, signals.clear) {
+            return Verdict::Ordinary(Reason::CAR_FAULT);
+        }
+        if is_no(p, 1, 6, !(car.battery.seen & car.status.seen) | in_range) {
+            return Verdict::Ordinary(Reason::INCOMPATIBLE_VOLTAGE);
+        }
+        if is_no(p, 1, 6, signals.parked) {
+            return Verdict::Ordinary(Reason::NOT_IN_PARK);
+        }
+        if is_no(p, 2, 6, signals.enabled) {
+            return Verdict::Ordinary(Reason::NOT_ENABLED);
+        }
+        if is_no(p, 1, 6, !signals.stop) {
+            return Verdict::Ordinary(Reason::STOP_REQUEST);
+        }
+        if is_no(p, 6, 6, signals.closed) {
+            return Verdict::Ordinary(Reason::CONTACTOR_OPEN);
+        }
+        self.ask_rest(view)
+    }
+
+    // 26 to 29.
+    fn ask_rest(self, view: View) -> Verdict
+        ensures { λ r. ⌜ r ≡ firstNo (self .lead .stage .phase) (questionsFrom 26 view self) ⌝ }
+    {
+        let p = self.lead.stage.phase;
+        let age = self.lead.stage.age;
+        let contacts = view.contacts;
+        if is_no(p, 1, 6, !contacts.stop) {
+            return Verdict::Ordinary(Reason::STOP_BUTTON);
+        }
+        if is_no(p, 3, 3, view.insulated) {
+            return Verdict::Ordinary(Reason::LOW_INSULATION);
+        }
+        if is_no(p, 1, 5, age < view.allowed) {
+            return Verdict::Ordinary(Reason::PHASE_TIMEOUT);
+        }
+        if is_no(p, 6, 6, age < view.time) {
+            return Verdict::Ordinary(Reason::CHARGING_TIME_OVER);
+        }
+        Verdict::Pass
     }
 }

@@ -1,15 +1,22 @@
--- Two lists of eight behind eight zeros, element by element. Assumes nothing.
-use mathlib.Core.List.{List, [], _∷_, _++_}
+-- A buffer that is written in one go, or in two: its beginning, then the rest. Assumes nothing.
+use mathlib.Core.List.{List, _++_, append-nil}
 use mathlib.Core.Path.{_≡_, ap, _∙_}
-use Prim.Native.Nat.{ℕ}
-use lib.ListN.{length, getD, replicate}
-use Rattle.common.proofs.Spelled.{eight}
+use Prim.Native.Nat.{ℕ, _+_, _-_, _≤_}
+use native.Mathlib.Omega.{arith}
+use lib.ListN.{length, take, drop, length-append, length-drop, drop-of-length-le}
+use lib.Seq.{take-at, drop-at, take-length}
 
-abbrev pub elements : List ℕ → List ℕ
-elements l =
-    getD l 0 0 ∷ getD l 1 0 ∷ getD l 2 0 ∷ getD l 3 0 ∷ getD l 4 0 ∷ getD l 5 0 ∷ getD l 6 0 ∷ getD l 7 0 ∷ []
+-- w copied over a list l
+module _ (w l p : List ℕ) (copied : p ≡ take (length w) w ++ drop (length w) l) where
+  begun : p ≡ w ++ drop (length w) l
+  begun = copied ∙ ap (λ x. x ++ drop (length w) l) (take-length w)
 
-pub joins : (a b : List ℕ) → length a ≡ 8 → length b ≡ 8 → replicate 8 0 ++ elements a ++ elements b ≡ replicate 8 0 ++ a ++ b
-joins a b ha hb =
-    ap (λ x. replicate 8 0 ++ x ++ elements b) (eight 0 a ha)
-    ∙ ap (λ x. replicate 8 0 ++ a ++ x) (eight 0 b hb)
+  pub copied-all : length l ≤ length w → p ≡ w
+  copied-all h = begun ∙ ap (λ x. w ++ x) (drop-of-length-le l h) ∙ append-nil w
+
+  -- then q over what is behind w
+  pub copied-both : (n : ℕ) (q : List ℕ) → length w ≡ n → take n p ++ (q ++ drop (length p - n) (drop n p)) ≡ w ++ q
+  copied-both n q e =
+      let rest = drop (length w) l in
+      let room : length rest ≤ length (w ++ rest) - n = rw length-append (omega arith) in
+      rw (begun, take-at w rest n e, drop-at w rest n e, drop-of-length-le rest room, append-nil q)

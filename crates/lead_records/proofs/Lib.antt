@@ -1,4 +1,4 @@
--- Laws. For the functions here: numbers in a part of a record, bytes that are zero, and frames joined.
+-- Laws. For the functions here: numbers in a part of a record, bytes that are zero, and a buffer written in two parts.
 -- For those above: the round trips of a state, and what is read of an input and shown in an output.
 pub mod Parts
 pub mod Zeros

@@ -1,20 +1,19 @@
--- Bytes that are all zero, from one place on. Assumes nothing.
-use mathlib.Core.Bool.{Bool, true, false, _&&_}
-use mathlib.Core.List.{List}
-use mathlib.Core.Path.{_≡_, refl}
-use Prim.Native.Nat.{ℕ, _+_, _≤_, _<_}
-use native.Mathlib.Numerals.{add-one}
-use lib.Dec.{eqb}
-use lib.ListN.{length, getD, drop, drop-of-length-le}
-use lib.Seq.{drop-cons}
-use Rattle.lead_records.specs.States.{allZero}
+-- Four bytes are zero where their number is. Assumes nothing.
+use mathlib.Core.Bool.{_&&_}
+use mathlib.Core.Path.{_≡_}
+use Prim.Native.Nat.{ℕ, zero, suc, _+_, _*_, _<_}
+use native.Mathlib.Nat.{mul-zero, mul-pos}
+use native.Mathlib.Omega.{arith}
+use borrow.Author.Tests.{ne-eqb}
+use lib.Dec.{eqb, lit<}
 
--- `zero` says so of the bytes before
-module _ (b : List ℕ) (i : ℕ) where
-  pub zero-more : (zero : Bool) → i < length b → (zero && eqb (getD b i 0) 0 && allZero (drop (i + 1) b)) ≡ (zero && allZero (drop i b))
-  zero-more true h = rw (drop-cons b i 0 h, add-one i)
-  zero-more false h = refl
+both-zero : (w a b : ℕ) → 0 < w → eqb (a + w * b) 0 ≡ (eqb a 0 && eqb b 0)
+both-zero w zero zero h = rw (mul-zero w)
+both-zero w zero (suc b) h =
+    let more : 0 < w * suc b = mul-pos h (omega arith) in
+    rw (ne-eqb (suc b) 0 (omega arith)) (ne-eqb (0 + w * suc b) 0 (omega arith))
+both-zero w (suc a) b h = rw (ne-eqb (suc a) 0 (omega arith)) (ne-eqb (suc a + w * b) 0 (omega arith))
 
-  pub zero-end : (zero : Bool) → length b ≤ i → (zero && allZero (drop i b)) ≡ zero
-  zero-end true h = rw (drop-of-length-le b h)
-  zero-end false h = refl
+pub four-zero : (a b c d : ℕ) → eqb (a + 256 * b + 65536 * (c + 256 * d)) 0 ≡ (eqb a 0 && eqb b 0 && (eqb c 0 && eqb d 0))
+four-zero a b c d =
+    rw (both-zero 65536 (a + 256 * b) (c + 256 * d) (lit< tt), both-zero 256 a b (lit< tt), both-zero 256 c d (lit< tt))

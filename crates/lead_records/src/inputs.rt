@@ -1,7 +1,5 @@
 // A lead's input as bytes.
-use frames::BatteryFrame;
-use frames::StatusFrame;
-use frames::TimeFrame;
+use frames::HeardFrames;
 use lead::Contacts;
 use lead::Input;
 use readings::Reading;
@@ -92,7 +90,10 @@ impl InputRecord {
             &bytes[InputRecord::AMPERES..InputRecord::INSULATION],
             has_amperes,
         );
-        let frames = &bytes[InputRecord::FRAMES..InputRecord::SIZE];
+        let heard = HeardFrames::newest(&bytes[InputRecord::FRAMES..InputRecord::SIZE], count);
+        let battery = heard.battery;
+        let time = heard.time;
+        let status = heard.status;
         Input {
             contacts: InputRecord::contacts(bytes[InputRecord::CONTACTS]),
             reading: judge(volts, amperes, resistance),
@@ -100,9 +101,9 @@ impl InputRecord {
                 &bytes[InputRecord::INSULATION..InputRecord::FRAMES],
                 has_insulation,
             ),
-            battery: BatteryFrame::newest(frames, count),
-            time: TimeFrame::newest(frames, count),
-            status: StatusFrame::newest(frames, count),
+            battery,
+            time,
+            status,
         }
     }
 

@@ -1,4 +1,5 @@
 // A lead's output as bytes: what it shows after a tick, and the two frames that the post sends.
+use bytes::copy;
 use frames::ChargerFlags;
 use frames::ChargingTime;
 use frames::Minutes;
@@ -10,7 +11,6 @@ use lead::Lead;
 use lead::Phase;
 use lead::Ratings;
 use lead::Reason;
-use little_endian::flag;
 use little_endian::high_byte;
 use little_endian::low_byte;
 use readings::Judged;
@@ -18,8 +18,8 @@ use readings::whole_units;
 ghost use mathlib.Core.Path.{_≡_};
 ghost use mathlib.Core.List.{_++_};
 ghost use Rattle.frames.specs.Sent.{offerBytes, reportBytes};
-ghost use lib.ListN.{replicate};
-ghost use Rattle.lead_records.specs.Outputs.{switches, testVolts, offerOf, flagsOf, remainingOf, shownReading, reportOf, whileSending, outputOf};
+ghost use lib.ListN.{length};
+ghost use Rattle.lead_records.specs.Outputs.{outputSize, switches, testVolts, offerOf, flagsOf, remainingOf, shownReading, reportOf, whileSending, outputOf};
 
 // The output's size, the places in it, and the weights in its byte of switches.
 pub struct OutputRecord;
@@ -43,6 +43,8 @@ impl OutputRecord {
 
     const TEST_VOLTS: usize = 4;
 
+    const ZERO: usize = 6;
+
     // The two frames.
     const OFFER: usize = 8;
 
@@ -60,14 +62,16 @@ impl OutputRecord {
     fn switches(phase: u8) -> u8
         ensures { λ r. ⌜ r ≡ switches phase ⌝ }
     {
-        let d1 = (Phase::HANDSHAKE <= phase) & (phase <= Phase::WELD_CHECK);
-        let d2 = (Phase::CONTACTOR_CLOSING <= phase) & (phase <= Phase::WELD_CHECK);
-        let lock = (Phase::LOCKING <= phase) & (phase <= Phase::FINAL_DISCHARGE);
-        let frames = (Phase::HANDSHAKE <= phase) & (phase <= Phase::FINAL_DISCHARGE);
-        flag(d1, OutputRecord::D1)
-            + flag(d2, OutputRecord::D2)
-            + flag(lock, OutputRecord::LOCK)
-            + flag(frames, OutputRecord::FRAMES)
+        match phase {
+            1 => OutputRecord::D1 + OutputRecord::FRAMES,
+            2..=4 => OutputRecord::D1 + OutputRecord::LOCK + OutputRecord::FRAMES,
+            5..=8 => OutputRecord::D1
+                + OutputRecord::D2
+                + OutputRecord::LOCK
+                + OutputRecord::FRAMES,
+            9 => OutputRecord::LOCK + OutputRecord::FRAMES,
+            _ => 0,
+        }
     }
 
     fn test_volts(lead: Lead) -> u16
@@ -82,15 +86,28 @@ impl OutputRecord {
     fn flags(lock: bool, phase: u8, reason: u8) -> ChargerFlags
         ensures { λ r. ⌜ r ≡ flagsOf lock phase reason ⌝ }
     {
+        let charging = (Phase::CHARGING <= phase) & (phase <= Phase::RAMP_DOWN);
+        let stopped = !(phase == Phase::CHARGING);
+        // Without a reason the flags of reasons need no look at each.
+        if reason == Reason::NONE {
+            return ChargerFlags {
+                charging,
+                malfunction: false,
+                locked: lock,
+                incompatible: false,
+                system: false,
+                stopped,
+            };
+        }
         ChargerFlags {
-            charging: (Phase::CHARGING <= phase) & (phase <= Phase::RAMP_DOWN),
+            charging,
             malfunction: (reason == Reason::GROUND_FAULT)
                 | ((Reason::BAD_READING <= reason) & (reason <= Reason::UNLOCKED))
                 | (reason == Reason::LOW_INSULATION),
             locked: lock,
             incompatible: reason == Reason::INCOMPATIBLE_VOLTAGE,
             system: (reason == Reason::CAR_SILENT) | (reason == Reason::PHASE_TIMEOUT),
-            stopped: !(phase == Phase::CHARGING),
+            stopped,
         }
     }
 
@@ -153,60 +170,48 @@ impl OutputRecord {
         report.bytes()
     }
 
-    fn while_sending(phase: u8, frame: [u8; 8]) -> [u8; 8]
-        ensures { λ r. ⌜ r ≡ whileSending phase frame ⌝ }
+    // H'108 and H'109, zeros where none is sent.
+    fn write_frames(ratings: Ratings, lock: bool, reading: Judged, lead: Lead, frames: &mut [u8])
+        requires { ⌜ length (now frames) ≡ 16 ⌝ }
+        ensures { λ _. ⌜ now (frames .exit) ≡ whileSending (lead .stage .phase) (offerBytes (offerOf ratings lead))
+            ++ whileSending (lead .stage .phase) (reportBytes (reportOf lock reading lead)) ⌝ }
     {
+        let phase = lead.stage.phase;
         let sending = (Phase::HANDSHAKE <= phase) & (phase <= Phase::FINAL_DISCHARGE);
-        if sending { frame } else { [0u8; 8] }
-    }
-
-    // The frames at their places, and zeros before them.
-    fn with_frames(offer: [u8; 8], report: [u8; 8]) -> [u8; OutputRecord::SIZE]
-        ensures { λ r. ⌜ r ≡ replicate 8 0 ++ offer ++ report ⌝ }
-    {
-        let mut bytes = [0u8; OutputRecord::SIZE];
-        bytes[OutputRecord::OFFER] = offer[0];
-        bytes[OutputRecord::OFFER + 1] = offer[1];
-        bytes[OutputRecord::OFFER + 2] = offer[2];
-        bytes[OutputRecord::OFFER + 3] = offer[3];
-        bytes[OutputRecord::OFFER + 4] = offer[4];
-        bytes[OutputRecord::OFFER + 5] = offer[5];
-        bytes[OutputRecord::OFFER + 6] = offer[6];
-        bytes[OutputRecord::OFFER + 7] = offer[7];
-        bytes[OutputRecord::REPORT] = report[0];
-        bytes[OutputRecord::REPORT + 1] = report[1];
-        bytes[OutputRecord::REPORT + 2] = report[2];
-        bytes[OutputRecord::REPORT + 3] = report[3];
-        bytes[OutputRecord::REPORT + 4] = report[4];
-        bytes[OutputRecord::REPORT + 5] = report[5];
-        bytes[OutputRecord::REPORT + 6] = report[6];
-        bytes[OutputRecord::REPORT + 7] = report[7];
-        bytes
+        if sending {
+            let offer = OutputRecord::offer(ratings, lead);
+            let report = OutputRecord::report(lock, reading, lead);
+            copy(&offer, frames);
+            copy(
+                &report,
+                &mut frames[OutputRecord::REPORT - OutputRecord::OFFER..],
+            );
+            return;
+        }
+        copy(&[0u8; 16], frames);
     }
 
     // Of the lead after the tick, with the tick's lock contact and reading.
-    pub fn bytes(
-        ratings: Ratings,
-        lock: bool,
-        reading: Judged,
-        lead: Lead,
-    ) -> [u8; OutputRecord::SIZE]
-        ensures { λ r. ⌜ r ≡ outputOf ratings lock reading lead ⌝ }
+    pub fn write(ratings: Ratings, lock: bool, reading: Judged, lead: Lead, output: &mut [u8])
+        requires { ⌜ length (now output) ≡ outputSize ⌝ }
+        ensures { λ _. ⌜ now (output .exit) ≡ outputOf ratings lock reading lead ⌝ }
     {
         let phase = lead.stage.phase;
-        let offer = OutputRecord::offer(ratings, lead);
-        let report = OutputRecord::report(lock, reading, lead);
-        let mut bytes = OutputRecord::with_frames(
-            OutputRecord::while_sending(phase, offer),
-            OutputRecord::while_sending(phase, report),
-        );
         let test = OutputRecord::test_volts(lead);
-        bytes[OutputRecord::PHASE] = phase;
-        bytes[OutputRecord::REASON] = lead.stage.reason;
-        bytes[OutputRecord::COMMAND] = lead.command;
-        bytes[OutputRecord::SWITCHES] = OutputRecord::switches(phase);
-        bytes[OutputRecord::TEST_VOLTS] = low_byte(test);
-        bytes[OutputRecord::TEST_VOLTS + 1] = high_byte(test);
-        bytes
+        let mut shown = [0u8; OutputRecord::OFFER];
+        shown[OutputRecord::PHASE] = phase;
+        shown[OutputRecord::REASON] = lead.stage.reason;
+        shown[OutputRecord::COMMAND] = lead.command;
+        shown[OutputRecord::SWITCHES] = OutputRecord::switches(phase);
+        shown[OutputRecord::TEST_VOLTS] = low_byte(test);
+        shown[OutputRecord::TEST_VOLTS + 1] = high_byte(test);
+        copy(&shown, output);
+        OutputRecord::write_frames(
+            ratings,
+            lock,
+            reading,
+            lead,
+            &mut output[OutputRecord::OFFER..],
+        );
     }
 }

@@ -18,7 +18,7 @@ use little_endian::u32_at;
 use little_endian::u32_bytes;
 ghost use mathlib.Core.Path.{_≡_};
 ghost use lib.ListN.{length, drop};
-ghost use Rattle.lead_records.specs.States.{stateSize, decode, seenByte, encode, allZero, goodState};
+ghost use Rattle.lead_records.specs.States.{stateSize, spareFrom, decode, seenByte, encode, allZero, goodState};
 
 // The state's size, the places in it, and the weights in its byte of frames seen.
 pub struct StateRecord;
@@ -159,20 +159,17 @@ impl StateRecord {
     {
         let lead = StateRecord::read(bytes);
         (bytes[StateRecord::SEEN] <= StateRecord::SEEN_MOST)
-            & is_zero_from(bytes, StateRecord::SPARE)
+            & is_spare_zero(bytes)
             & lead.is_good(ratings)
     }
 }
 
-// Every byte is looked at: without an early end the compiler compares several at once.
-fn is_zero_from(bytes: &[u8], from: usize) -> bool
-    ensures { λ r. ⌜ r ≡ allZero (drop from (now (bytes .entry))) ⌝ }
+// The spare bytes, four at a time.
+fn is_spare_zero(bytes: &[u8]) -> bool
+    requires { ⌜ length (now bytes) ≡ stateSize ⌝ }
+    ensures { λ r. ⌜ r ≡ allZero (drop spareFrom (now (bytes .entry))) ⌝ }
 {
-    let mut zero = true;
-    let mut i = from;
-    while i < bytes.len() {
-        zero = zero & (bytes[i] == 0);
-        i += 1;
-    }
-    zero
+    (u32_at(bytes, StateRecord::SPARE) == 0)
+        & (u32_at(bytes, StateRecord::SPARE + 4) == 0)
+        & (u32_at(bytes, StateRecord::SPARE + 8) == 0)
 }

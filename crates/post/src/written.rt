@@ -37,9 +37,14 @@ pub(crate) fn write_leads(
         let turn = turns[i].command(head.ratings, level);
         let reading = turn.reading;
         let kept = StateRecord::bytes(turn.lead);
-        let shown = OutputRecord::bytes(head.ratings, turn.lock, reading, turn.lead);
         copy(&kept, &mut state[at..at + StateRecord::SIZE]);
-        copy(&shown, &mut output[to..to + OutputRecord::SIZE]);
+        OutputRecord::write(
+            head.ratings,
+            turn.lock,
+            reading,
+            turn.lead,
+            &mut output[to..to + OutputRecord::SIZE],
+        );
         i += 1;
     }
 }

@@ -1,7 +1,7 @@
 -- `least` of a float in range by the fields of its bits: exponent and fraction. Assumes nothing.
 use mathlib.Core.Path.{_≡_, refl, sym, ap, _∙_, subst}
 use mathlib.Core.Bool.{Bool, true, false, not, cond}
-use Prim.Native.Nat.{ℕ, suc, _+_, _-_, _*_, _/_, _%_, _^_, _≤_, _<_}
+use Prim.Native.Nat.{ℕ, zero, suc, _+_, _-_, _*_, _/_, _%_, _^_, _≤_, _<_}
 use native.Mathlib.Nat.{le-trans, le-of-eq, lt-of-not-le, not-le-of-lt, mul-assoc, mul-pos, mul-le-mul}
 use native.Mathlib.Omega.{arith}
 use borrow.Author.Tests.{lt-ltb, le-ltb}
@@ -48,9 +48,12 @@ with-one s k d = go (eqb (suc k) 255) (eqb d 0)
     go true false t = no-nan nan t
     go false z t = odd-val 24 s (8388608 + d) k 149
 
--- the fields of a bit pattern, as the code takes them
+-- a bit pattern without its sign, and its fields, as the code takes them
+abbrev pub magnitude : ℕ → ℕ
+magnitude b = b % 0x8000_0000
+
 abbrev pub exponent : ℕ → ℕ
-exponent b = b % 0x8000_0000 / 0x80_0000
+exponent b = magnitude b / 0x80_0000
 
 abbrev pub fraction : ℕ → ℕ
 fraction b = b % 0x80_0000
@@ -78,12 +81,12 @@ module _ (x : Float) (f : T (fits binary32 x)) (t : T (within 1000 x)) where
 
   -- ---- `least` by the fields
 
-  pub least-zero : exponent bits ≡ 0 → fraction bits ≡ 0 → least x ≡ 0
+  least-zero : exponent bits ≡ 0 → fraction bits ≡ 0 → least x ≡ 0
   least-zero z d =
       least-of (fraction bits * 2 ^ 0) (2 ^ 149) (pow-pos 149) x t (subnormal z)
       ∙ ap (λ (n : ℕ). ceiling (stepsPerUnit * (n * 2 ^ 0)) (2 ^ 149)) d
 
-  pub least-subnormal : exponent bits ≡ 0 → (fraction bits ≡ 0 → ⊥) → least x ≡ 1
+  least-subnormal : exponent bits ≡ 0 → (fraction bits ≡ 0 → ⊥) → least x ≡ 1
   least-subnormal z d =
       least-of (fraction bits * 2 ^ 0) (2 ^ 149) (pow-pos 149) x t (subnormal z)
       ∙ ceilings.one (stepsPerUnit * (fraction bits * 2 ^ 0)) (2 ^ 149) (omega arith) (le-trans {m = 2 ^ 28} (omega arith) (lit≤ tt))
@@ -98,7 +101,7 @@ module _ (x : Float) (f : T (fits binary32 x)) (t : T (within 1000 x)) where
     value : Equals x (significand * 2 ^ k) (2 ^ 149)
     value = normal k (omega arith)
 
-    pub least-small : exponent bits < 120 → least x ≡ 1
+    least-small : exponent bits < 120 → least x ≡ 1
     least-small h =
         let s : stepsPerUnit * significand ≤ 2 ^ 28 = omega arith in
         let e : k ≤ 118 = omega arith in
@@ -124,3 +127,15 @@ module _ (x : Float) (f : T (fits binary32 x)) (t : T (within 1000 x)) where
         (ap (λ (n : ℕ). n * 2 ^ d) (sym (mul-assoc stepsPerUnit significand (2 ^ k)))
         ∙ mul-assoc (stepsPerUnit * significand) (2 ^ k) (2 ^ d)
         ∙ ap (λ (n : ℕ). stepsPerUnit * significand * n) (sym (pow-add 2 k d) ∙ ap (λ (n : ℕ). 2 ^ n) e))
+
+  -- ---- and by exponent and fraction taken as one number
+
+  pub least-nothing : magnitude bits ≡ 0 → least x ≡ 0
+  least-nothing z = least-zero (omega arith) (omega arith)
+
+  pub least-tiny : magnitude bits < 120 * 0x80_0000 → (magnitude bits ≡ 0 → ⊥) → least x ≡ 1
+  least-tiny h n = go (exponent bits) refl
+    where
+      go : (k : ℕ) → exponent bits ≡ k → least x ≡ 1
+      go zero z = least-subnormal z (λ d. n (omega arith))
+      go (suc k) z = least-small (omega arith) (omega arith)

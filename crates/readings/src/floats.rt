@@ -32,20 +32,20 @@ fn rounded_up(n: u64, by: u32) -> u64
     (n + (unit - 1)) >> by
 }
 
-// By the exponent and fraction fields. An exponent field below 120 is a value below 1 / 128, less than a step.
+// Bits below these, an exponent field of 120, stand for less than 1 / 128: less than a step.
+const BITS_OF_A_STEP: u32 = 120 * 0x80_0000;
+
+// By the exponent and fraction fields.
 pub(crate) fn least_steps(x: f32) -> u16
     requires { ⌜ within 1000 x ≡ true ⌝ }
     ensures { λ r. ⌜ r ≡ least x ⌝ }
 {
     let bits = f32::to_bits(x);
-    let exponent = bits % 0x8000_0000 / 0x80_0000;
-    let fraction = bits % 0x80_0000;
-    if exponent == 0 {
-        return if fraction == 0 { 0 } else { 1 };
+    let magnitude = bits % 0x8000_0000;
+    if magnitude < BITS_OF_A_STEP {
+        return if magnitude == 0 { 0 } else { 1 };
     }
-    if exponent < 120 {
-        return 1;
-    }
-    let significand = (0x80_0000 + fraction) as u64;
+    let exponent = magnitude / 0x80_0000;
+    let significand = (0x80_0000 + bits % 0x80_0000) as u64;
     rounded_up((STEPS_PER_UNIT as u64) * significand, 150 - exponent) as u16
 }

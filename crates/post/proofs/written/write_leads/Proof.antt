@@ -16,7 +16,7 @@ use Rattle.lead_records.proofs.Shown.{output-length}
 use Rattle.post.specs.Heads.{headSize}
 use Rattle.post.specs.Turns.{emptyTurn, commandedTurn, turnShown}
 use Rattle.post.specs.declared.turns.Turn.{Turn}
-use Rattle.common.proofs.Joined.{Filling, filled-none, filled-copy, filled-all}
+use Rattle.common.proofs.Joined.{Filling, filled-none, filled-written, filled-copy, filled-all}
 use Rattle.post.proofs.written.write_leads.Statement.{statement}
 use Rattle.post.proofs.written.write_leads.Tie as tie
 
@@ -47,9 +47,10 @@ loop-holds c =
 
 loop-again : tie.Need-loop-again Inv-loop μ-loop
 loop-again c =
-    let j = c .before .before .before .before .before .before .before in
+    let w = c .before .before in
+    let j = w .before .before .before .before in
     let made = j .before .before .before in
-    let commanded = made .before .before in
+    let commanded = made .before in
     let k = commanded .before .before .before in
     let a = k .before .before .before .before .args in
     let i = k .loop .i in
@@ -58,13 +59,12 @@ loop-again c =
     let e = commanded .command .ensures in (
       omega arith,
       filled-copy stateSize (kept (a .head .ratings) (a .level) (a .t3)) (λ k. encode-length _) headSize (now (a .state)) i at
-          (at + stateSize - at) (k .loop .state) (made .before .bytes .result) (j .copy .last .1 .0) (omega arith) (omega arith) refl
-          (add-sub-cancel-left at stateSize) (made .before .bytes .ensures ∙ ap (λ (t : Turn). encode (t .lead)) e) (k .loop .inv .1)
+          (at + stateSize - at) (k .loop .state) (made .bytes .result) (j .copy .last .1 .0) (omega arith) (omega arith) refl
+          (add-sub-cancel-left at stateSize) (made .bytes .ensures ∙ ap (λ (t : Turn). encode (t .lead)) e) (k .loop .inv .1)
           (j .copy .ensures .1),
-      filled-copy outputSize (shown (a .head .ratings) (a .level) (a .t3)) (λ k. output-length _ _ _ _) 0 (now (a .output)) i to
-          (to + outputSize - to) (k .loop .output) (made .bytes2 .result) (c .before .before .copy2 .last .1 .0) (omega arith) (omega arith)
-          (omega arith) (add-sub-cancel-left to outputSize) (made .bytes2 .ensures ∙ ap (turnShown (a .head .ratings)) e) (k .loop .inv .2)
-          (c .before .before .copy2 .ensures .1),
+      filled-written outputSize (shown (a .head .ratings) (a .level) (a .t3)) (λ k. output-length _ _ _ _) 0 (now (a .output)) i to
+          (to + outputSize - to) (k .loop .output) (w .write .last .1 .1 .1 .1 .0) (omega arith) (omega arith)
+          (omega arith) (add-sub-cancel-left to outputSize) (w .write .ensures ∙ ap (turnShown (a .head .ratings)) e) (k .loop .inv .2),
     )
 
 same-length : tie.Need-same-length Inv-loop μ-loop
@@ -89,5 +89,5 @@ write-leads-spec =
     tie.close
     (tie.spec Inv-loop μ-loop (search needs) loop-holds (search needs) (search needs) (search needs) (search needs) (search needs)
     (search needs) (search needs) (search needs) (search needs) (search needs) (search needs) (search needs) (search needs)
-    (search needs) (search needs) (search needs) (search needs) (search needs) (search needs) (search needs) (search needs)
-    (search needs) loop-again same-length same-length-2 returns)
+    (search needs) (search needs) (search needs) (search needs) (search needs) (search needs) (search needs)
+    loop-again same-length same-length-2 returns)

@@ -9,7 +9,7 @@ use Rattle.readings.specs.Value.{within, least, stepsPerUnit}
 use Rattle.common.proofs.Bools.{holds}
 use Rattle.readings.proofs.InRange.{no-nan}
 use Rattle.readings.proofs.Least.{least-top}
-use Rattle.readings.proofs.Bits.{exponent, least-zero, least-subnormal, least-small, least-normal, exponent-top}
+use Rattle.readings.proofs.Bits.{exponent, least-nothing, least-tiny, least-normal, exponent-top}
 use Rattle.readings.proofs.floats.least_steps.Statement.{statement}
 use Rattle.readings.proofs.floats.least_steps.Tie as tie
 
@@ -20,7 +20,7 @@ held c = subst T (sym (c .good .0 .1)) tt
 in-range : (c : tie.Start) → T (within 1000 (c .args .x))
 in-range c = holds (c .pre)
 
--- past the first test the exponent field is not 0
+-- past the test the exponent field is not 0
 normal : (c : tie.Else1) → 0 < exponent (toBits binary32 (c .before .args .x))
 normal c = search needs
 
@@ -30,40 +30,33 @@ float-to-bits-bits c = no-nan (c .args .x) (in-range c)
 returns : tie.Need-returns
 returns c =
     let s = c .before .before in
-    sym (least-zero (s .args .x) (held s) (in-range s) (c .before .if1 .taken) (c .if2 .taken))
+    sym (least-nothing (s .args .x) (held s) (in-range s) (c .if2 .taken))
 
 returns-2 : tie.Need-returns-2
 returns-2 c =
     let s = c .before .before in
-    sym (least-subnormal (s .args .x) (held s) (in-range s) (c .before .if1 .taken) (c .if2 .left))
-
-returns-3 : tie.Need-returns-3
-returns-3 c =
-    let s = c .before .before in
-    sym (least-small (s .args .x) (held s) (in-range s) (normal (c .before)) (c .if3 .taken))
+    sym (least-tiny (s .args .x) (held s) (in-range s) (c .before .if1 .taken) (c .if2 .left))
 
 sub-rounded-up : tie.Need-sub-rounded-up
-sub-rounded-up c =
-    let s = c .before .before in
-    omega (arith, exponent-top (s .args .x) (held s) (in-range s) (normal (c .before)))
+sub-rounded-up c = omega (arith, exponent-top (c .before .args .x) (held (c .before)) (in-range (c .before)) (normal c))
 
 -- what the call returns
-is-least : (c : tie.After-rounded-up) → c .rounded-up .result ≡ least (c .before .before .before .args .x)
+is-least : (c : tie.After-rounded-up) → c .rounded-up .result ≡ least (c .before .before .args .x)
 is-least c =
-    let s = c .before .before .before in
-    c .rounded-up .ensures ∙ sym (least-normal (s .args .x) (held s) (in-range s) (normal (c .before .before)))
+    let s = c .before .before in
+    c .rounded-up .ensures ∙ sym (least-normal (s .args .x) (held s) (in-range s) (normal (c .before)))
 
 cast-result : tie.Need-cast-result
 cast-result c =
-    let s = c .before .before .before in
+    let s = c .before .before in
     let b : least (s .args .x) ≤ stepsPerUnit * 1000 = least-top (s .args .x) (in-range s) in
     omega (arith, is-least c)
 
-returns-4 : tie.Need-returns-4
-returns-4 c = is-least c
+returns-3 : tie.Need-returns-3
+returns-3 c = is-least c
 
 pub least-steps-spec : {M : Type 1} → statement M
 least-steps-spec =
     tie.close
-    (tie.spec float-to-bits-bits returns returns-2 returns-3 (search needs) (search needs) (search needs) (search needs) sub-rounded-up (search needs)
-    cast-result returns-4)
+    (tie.spec float-to-bits-bits returns returns-2 (search needs) (search needs) (search needs) (search needs) sub-rounded-up (search needs)
+    cast-result returns-3)

@@ -10,7 +10,7 @@ returns c =
     let k = c .before .before .before in
     rw (
       c .ticks .ensures,
-      c .before .at-phase .ensures,
+      c .before .ticks-allowed .ensures,
       c .before .before .is-insulated .ensures,
       k .is-present .ensures,
       k .before .signals .ensures,
@@ -21,4 +21,4 @@ returns c =
 pub view-spec : {M : Type 1} → statement M
 view-spec =
     tie.close
-    (tie.spec (search needs) (search needs) (search needs) (search needs) (search needs) (search needs) (search needs) (search needs) returns)
+    (tie.spec (search needs) (search needs) (search needs) (search needs) (search needs) (search needs) (search needs) returns)

@@ -13,15 +13,13 @@ returns : tie.Need-returns
 unfolding inputOf
 returns c =
     let k = c .before .before .before in
-    let m = k .before .before .before .before .before .before in
+    let m = k .before .before .before .before in
     let b = now (m .before .before .before .before .before .before .before .args .bytes) in
     rw (
-      c .newest3 .ensures,
-      c .before .newest2 .ensures,
-      c .before .before .newest .ensures,
-      k .from-bytes3 .ensures,
-      k .before .before .judge .ensures,
-      k .before .before .before .contacts .ensures,
+      c .from-bytes3 .ensures,
+      c .before .before .judge .ensures,
+      k .contacts .ensures,
+      k .before .before .newest .ensures,
       m .from-bytes2 .ensures,
       m .before .before .from-bytes .ensures,
       u32-part b 4,
@@ -33,5 +31,5 @@ pub read-spec : {M : Type 1} → statement M
 read-spec =
     tie.close
     (tie.spec (search needs) (search needs) (search needs) (search needs) (search needs) (search needs) (search needs) (search needs)
-    (search needs) (search needs) (search needs) (search needs) (search needs) (search needs) (search needs) judge-requires (search needs)
-    (search needs) (search needs) (search needs) (search needs) (search needs) (search needs) returns)
+    (search needs) (search needs) (search needs) (search needs) (search needs) (search needs) (search needs) (search needs) judge-requires
+    (search needs) (search needs) (search needs) (search needs) returns)

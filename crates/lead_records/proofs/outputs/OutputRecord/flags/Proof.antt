@@ -6,8 +6,12 @@ use Rattle.lead_records.proofs.outputs.OutputRecord.flags.Tie as tie
 
 returns : tie.Need-returns
 unfolding flagsOf
-returns c = refl
+returns c = rw (c .if1 .taken)
+
+returns-2 : tie.Need-returns-2
+unfolding flagsOf
+returns-2 c = refl
 
 pub flags-spec : {M : Type 1} → statement M
 flags-spec = tie.close
-    (tie.spec returns)
+    (tie.spec returns returns-2)

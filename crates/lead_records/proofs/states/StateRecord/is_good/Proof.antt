@@ -6,7 +6,7 @@ use Rattle.lead_records.proofs.states.StateRecord.is_good.Tie as tie
 
 returns : tie.Need-returns
 unfolding goodState
-returns c = rw (c .is-good .ensures, c .before .is-zero-from .ensures, c .before .before .before .read .ensures)
+returns c = rw (c .is-good .ensures, c .before .is-spare-zero .ensures, c .before .before .before .read .ensures)
 
 pub is-good-spec : {M : Type 1} → statement M
 is-good-spec =
