@@ -1,5 +1,5 @@
 -- Document 01, 'Frames': what the H'100, H'101 and H'102 that count say. Definitions only.
--- Of each kind the values of each case, Heard or, where no record counts and it is [], Absent; and the document's identifier of the record that counts.
+-- What each says is said of its record: Heard, or Absent where none counts and the record is []. Which record counts goes by the document's identifier.
 use mathlib.Core.Bool.{Bool, not, cond, _&&_}
 use mathlib.Core.List.{List}
 use Prim.Native.Nat.{ℕ, _%_}

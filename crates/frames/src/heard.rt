@@ -1,4 +1,5 @@
-// The frames that a car sends: H'100, H'101 and H'102. Each is heard in a tick, or is absent; read from its record, which is empty then.
+// The frames that a car sends: H'100, H'101 and H'102. Each is heard in a tick, or is absent; it is read from its record, which is empty
+// where there is none.
 use super::records::FrameRecord;
 use super::times::ChargingTime;
 use super::times::Minutes;

@@ -14,7 +14,7 @@ ghost use mathlib.Core.Bool.{cond};
 ghost use Rattle.lead.specs.Moves.{mayMove, exitsOf, nextPhase, reasonAfter, ageAfter, goOn, advance, decide};
 
 impl HeardLead {
-    // Whether what the phase's move wants is there.
+    // What the move out of each phase wants; 6 has none.
     fn may_move(self, view: View) -> bool
         ensures { λ r. ⌜ r ≡ mayMove view self ⌝ }
     {
@@ -26,37 +26,26 @@ impl HeardLead {
         let phase = lead.stage.phase;
         let age = lead.stage.age;
         match phase {
-            // 0 to 1
-            Phase::IDLE => contacts.start & contacts.plug & !contacts.emergency,
-            // 1 to 2
-            Phase::HANDSHAKE => {
+            0 => contacts.start & contacts.plug & !contacts.emergency,
+            1 => {
                 car.battery.seen
                     & car.time.seen
                     & car.status.seen
                     & contacts.permission
                     & signals.enabled
             }
-            // 2 to 3
-            Phase::LOCKING => contacts.lock,
-            // 3 to 4
-            Phase::INSULATION_TEST => view.present,
-            // 4 to 5
-            Phase::TEST_DISCHARGE => meter.volts <= Figure::DISCHARGED_VOLTS,
-            // 5 to 6
-            Phase::CONTACTOR_CLOSING => signals.closed,
-            // 6: none
-            Phase::CHARGING => false,
-            // 7 to 8
-            Phase::RAMP_DOWN => {
+            2 => contacts.lock,
+            3 => view.present,
+            4 => meter.volts <= Figure::DISCHARGED_VOLTS,
+            5 => signals.closed,
+            6 => false,
+            7 => {
                 ((lead.command == 0) & (meter.amperes <= Figure::RESIDUAL_AMPERES))
                     | (Figure::RAMP_DOWN_END <= age)
             }
-            // 8 to 9
-            Phase::WELD_CHECK => !signals.closed | (Figure::WELD_CHECK_END <= age),
-            // 9 to 10
-            Phase::FINAL_DISCHARGE => meter.good & (meter.volts <= Figure::DISCHARGED_VOLTS),
-            // 10 to 0
-            Phase::ENDED => !contacts.plug,
+            8 => !signals.closed | (Figure::WELD_CHECK_END <= age),
+            9 => meter.good & (meter.volts <= Figure::DISCHARGED_VOLTS),
+            10 => !contacts.plug,
             _ => false,
         }
     }
@@ -104,7 +93,7 @@ impl Lead {
     }
 }
 
-// The phases that one leads to: by its move, by an urgent stop, by another. Without such a move or stop it stays.
+// Where a phase leads: by its move, by an urgent stop, by another. It stays where it has none; past 10 there is no phase, and 0 stands.
 struct Exits(u8, u8, u8);
 
 fn exits_of(phase: u8) -> Exits

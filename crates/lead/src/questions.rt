@@ -139,7 +139,7 @@ impl HeardLead {
         }
     }
 
-    // Every question, in the document's order: the first no is the stop. Here the urgent ones, 11 to 18.
+    // All questions, row by row as the document has them; the first no is the stop. The urgent ones, 11 to 18, and behind them the others.
     pub(crate) fn ask(self, view: View) -> Verdict
         ensures { λ r. ⌜ r ≡ ask view self ⌝ }
     {
@@ -176,7 +176,7 @@ impl HeardLead {
         self.ask_car(view)
     }
 
-    // On what the car says, 19 to 25.
+    // 19 to 25, on what the car says, and behind them the rest.
     fn ask_car(self, view: View) -> Verdict
         ensures { λ r. ⌜ r ≡ firstNo (self .lead .stage .phase) (questionsFrom 19 view self) ⌝ }
     {
@@ -187,13 +187,14 @@ impl HeardLead {
         let in_range = (Figure::LEAST_VOLTS <= car.battery.maximum)
             & (Figure::LEAST_VOLTS <= target)
             & (target <= view.threshold);
+        let compatible = !(car.battery.seen & car.status.seen) | in_range;
         if is_no(p, 2, 6, car.silence < Figure::SILENCE_END) {
             return Verdict::Ordinary(Reason::CAR_SILENT);
         }
         if is_no(p, 1, 6, signals.clear) {
             return Verdict::Ordinary(Reason::CAR_FAULT);
         }
-        if is_no(p, 1, 6, !(car.battery.seen & car.status.seen) | in_range) {
+        if is_no(p, 1, 6, compatible) {
             return Verdict::Ordinary(Reason::INCOMPATIBLE_VOLTAGE);
         }
         if is_no(p, 1, 6, signals.parked) {
@@ -211,7 +212,7 @@ impl HeardLead {
         self.ask_rest(view)
     }
 
-    // 26 to 29.
+    // 26 to 29, the rest.
     fn ask_rest(self, view: View) -> Verdict
         ensures { λ r. ⌜ r ≡ firstNo (self .lead .stage .phase) (questionsFrom 26 view self) ⌝ }
     {

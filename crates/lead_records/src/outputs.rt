@@ -43,8 +43,6 @@ impl OutputRecord {
 
     const TEST_VOLTS: usize = 4;
 
-    const ZERO: usize = 6;
-
     // The two frames.
     const OFFER: usize = 8;
 
@@ -88,7 +86,7 @@ impl OutputRecord {
     {
         let charging = (Phase::CHARGING <= phase) & (phase <= Phase::RAMP_DOWN);
         let stopped = !(phase == Phase::CHARGING);
-        // Without a reason the flags of reasons need no look at each.
+        // Most leads show no reason, and then none of its three flags.
         if reason == Reason::NONE {
             return ChargerFlags {
                 charging,
@@ -188,7 +186,7 @@ impl OutputRecord {
             );
             return;
         }
-        copy(&[0u8; 16], frames);
+        copy(&[0u8; OutputRecord::SIZE - OutputRecord::OFFER], frames);
     }
 
     // Of the lead after the tick, with the tick's lock contact and reading.

@@ -11,17 +11,17 @@ use Rattle.lead.proofs.state.HeardLead.ask_car.Tie as tie
 abbrev Up-to : ℕ → tie.Start → Bool → Type 0
 Up-to n s b = Row (s .args .view) (s .args .self) 19 n b
 
-row-19 : (c : tie.After-is-no) → Up-to 19 (c .before .before .before .before .before .before) (c .is-no .result)
+row-19 : (c : tie.After-is-no) → Up-to 19 (c .before .before .before .before .before .before .before) (c .is-no .result)
 unfolding questions
 row-19 c = first-row 19 tt (c .is-no .ensures)
 
-row-20 : (c : tie.After-is-no2) → Up-to 20 (c .before .before .before .before .before .before .before .before) (c .is-no2 .result)
+row-20 : (c : tie.After-is-no2) → Up-to 20 (c .before .before .before .before .before .before .before .before .before) (c .is-no2 .result)
 unfolding questions
 row-20 c = next-row (row-19 (c .before .before)) (c .before .if1 .left) tt (c .is-no2 .ensures)
 
 row-21 : (c : tie.After-is-no3) → Up-to 21 (c .before .before .before .before .before .before .before .before .before .before .before) (c .is-no3 .result)
 unfolding questions
-row-21 c = next-row (row-20 (c .before .before .before)) (c .before .before .if2 .left) tt (c .is-no3 .ensures)
+row-21 c = next-row (row-20 (c .before .before)) (c .before .if2 .left) tt (c .is-no3 .ensures)
 
 row-22 : (c : tie.After-is-no4) → Up-to 22 (c .before .before .before .before .before .before .before .before .before .before .before .before .before) (c .is-no4 .result)
 unfolding questions
