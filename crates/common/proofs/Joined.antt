@@ -7,8 +7,9 @@ use native.Mathlib.Nat.{mul-zero, mul-suc, add-zero, add-assoc, add-sub-cancel-l
 use native.Mathlib.Numerals.{add-one}
 use native.Mathlib.Omega.{arith}
 use lib.ListN.{length, take, drop, length-append, length-take, length-drop, take-append-drop, drop-of-length-le}
-use lib.Seq.{take-at, drop-at, drop-drop, length-take-le, take-append-le, drop-append-le, take-all, take-length}
+use lib.Seq.{take-at, drop-at, drop-drop, length-take-le, take-append-le, drop-append-le, take-all}
 use Rattle.common.specs.Parts.{part, joined}
+use Rattle.common.proofs.Copied.{copied-all}
 
 -- record i as the code cuts it out, from the place where it begins
 pub cut :
@@ -74,7 +75,7 @@ module _ (size : ℕ) (F : ℕ → List ℕ) (sized : (k : ℕ) → length (F k)
     filled-length i h g =
         rw (length-append (take head bytes ++ joined i F) (drop (head + size * i) bytes), begun i h, length-drop) (omega arith)
 
-    -- one turn of a loop that writes record i, p, at its place
+    -- one turn of a loop that writes p, record i, at its place
     pub filled-written :
         (i at room : ℕ) (now p : List ℕ)
         → head ≤ length bytes
@@ -88,7 +89,7 @@ module _ (size : ℕ) (F : ℕ → List ℕ) (sized : (k : ℕ) → length (F k)
         let more = filled-more i at room now p h ea er ep (before .1) in
         (ap length more ∙ filled-length (i + 1) h g, more)
 
-    -- and that copies it there, from w
+    -- the same where p is copied from w
     pub filled-copy :
         (i at room : ℕ) (now w p : List ℕ)
         → head ≤ length bytes
@@ -102,12 +103,7 @@ module _ (size : ℕ) (F : ℕ → List ℕ) (sized : (k : ℕ) → length (F k)
     filled-copy i at room now w p h g ea er ew before ep =
         let long : length w ≡ size = ap length ew ∙ sized i in
         let short : length (take room (drop at now)) ≤ length w = omega (arith, length-take room (drop at now)) in
-        let whole : p ≡ F i =
-        ep
-        ∙ ap (λ (r : List ℕ). take (length w) w ++ r) (drop-of-length-le (take room (drop at now)) short)
-        ∙ append-nil _
-        ∙ take-length w
-        ∙ ew in
+        let whole : p ≡ F i = copied-all w (take room (drop at now)) p ep short ∙ ew in
         filled-written i at room now p h g ea er whole before
 
     pub filled-all :

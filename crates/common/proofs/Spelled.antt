@@ -1,9 +1,9 @@
 -- A list by its elements. Assumes nothing.
-use mathlib.Core.List.{List, [], _∷_}
+use mathlib.Core.List.{List, _∷_}
 use mathlib.Core.Path.{_≡_, refl, sym, ap, _∙_}
 use Prim.Native.Nat.{ℕ, zero, suc, _+_, _≤_}
 use native.Mathlib.Omega.{arith}
-use lib.ListN.{length, getD, drop, drop-of-length-le}
+use lib.ListN.{length, getD, drop}
 use lib.Seq.{drop-cons}
 
 module _ {A : Type 0} (d : A) (l : List A) where
@@ -15,12 +15,3 @@ module _ {A : Type 0} (d : A) (l : List A) where
   pub spelled-is : (k i : ℕ) → i + k ≤ length l → spelled k i ≡ drop i l
   spelled-is zero i h = refl
   spelled-is (suc k) i h = ap (λ r. getD l i d ∷ r) (spelled-is k (suc i) (omega arith)) ∙ sym (drop-cons l i d (omega arith))
-
-  pub eight :
-      length l ≡ 8
-      → (getD l 0 d ∷ getD l 1 d ∷ getD l 2 d ∷ getD l 3 d ∷ getD l 4 d ∷ getD l 5 d ∷ getD l 6 d ∷ getD l 7 d ∷ []) ≡ l
-  eight e =
-      let none : length l ≤ 8 = omega arith in
-      ap (λ r. getD l 0 d ∷ getD l 1 d ∷ getD l 2 d ∷ getD l 3 d ∷ getD l 4 d ∷ getD l 5 d ∷ getD l 6 d ∷ getD l 7 d ∷ r)
-      (sym (drop-of-length-le l none))
-      ∙ spelled-is 8 0 (omega arith)

@@ -6,32 +6,32 @@ use Prim.Native.Nat.{ℕ, zero, suc, _*_, _/_, _≤_, min}
 use native.Mathlib.Omega.{arith}
 use lib.ListN.{length}
 use Rattle.frames.specs.Records.{recordSize, recordAt, isFrame, lastOf, newestRecord}
-use Rattle.frames.specs.Search.{numbered, newestOf}
+use Rattle.frames.specs.Search.{numbered, foundOf}
 
 module _ (identifier : ℕ) (s : List ℕ) where
-  pub newest-last : (n : ℕ) → numbered s (newestOf identifier s n) ≡ lastOf identifier s n
+  newest-last : (n : ℕ) → numbered s (foundOf identifier s n) ≡ lastOf identifier s n
   newest-last zero = refl
   newest-last (suc n) = go (isFrame identifier (recordAt n s)) (newest-last n)
     where
       go :
           (b : Bool)
-          → numbered s (newestOf identifier s n) ≡ lastOf identifier s n
-          → numbered s (cond b (suc n) (newestOf identifier s n)) ≡ cond b (recordAt n s) (lastOf identifier s n)
+          → numbered s (foundOf identifier s n) ≡ lastOf identifier s n
+          → numbered s (cond b (suc n) (foundOf identifier s n)) ≡ cond b (recordAt n s) (lastOf identifier s n)
       go true e = refl
       go false e = e
 
-  pub newest-within : (n : ℕ) → newestOf identifier s n ≤ n
+  newest-within : (n : ℕ) → foundOf identifier s n ≤ n
   newest-within zero = omega arith
   newest-within (suc n) = go (isFrame identifier (recordAt n s)) (newest-within n)
     where
-      go : (b : Bool) → newestOf identifier s n ≤ n → cond b (suc n) (newestOf identifier s n) ≤ suc n
+      go : (b : Bool) → foundOf identifier s n ≤ n → cond b (suc n) (foundOf identifier s n) ≤ suc n
       go true h = omega arith
       go false h = omega arith
 
 -- of the records that the count takes in
 module _ (identifier count : ℕ) (s : List ℕ) where
   abbrev found : ℕ
-  found = newestOf identifier s (min count (length s / recordSize))
+  found = foundOf identifier s (min count (length s / recordSize))
 
   pub found-newest : numbered s found ≡ newestRecord identifier count s
   unfolding newestRecord

@@ -1,5 +1,5 @@
 -- Document 01, 'Frames': what the H'100, H'101 and H'102 that count say. Definitions only.
--- What each says is said of its record: Heard, or Absent where none counts and the record is []. Which record counts goes by the document's identifier.
+-- A frame is Heard with the values of the record that counts, and Absent where none counts and the record is [].
 use mathlib.Core.Bool.{Bool, not, cond, _&&_}
 use mathlib.Core.List.{List}
 use Prim.Native.Nat.{ℕ, _%_}
@@ -36,6 +36,7 @@ statusIn r =
     (status.Heard (record { target = dataNumber r 1; request = dataByte r 3; faults = dataByte r 4; flags = dataByte r 5 }))
     status.Absent
 
+-- "Of several with one identifier in a tick, the last counts."
 unfoldable pub newestBattery : ℕ → List ℕ → BatteryFrame
 newestBattery count s = batteryIn (newestRecord 0x100 count s)
 

@@ -10,7 +10,7 @@ ghost use Prim.Native.Nat.{_/_, min};
 ghost use lib.ListN.{length};
 ghost use Rattle.frames.specs.Records.{recordSize};
 ghost use Rattle.frames.specs.Heard.{newestFrames};
-ghost use Rattle.frames.specs.Search.{withRecord, newestAmong};
+ghost use Rattle.frames.specs.Search.{withRecord, foundAmong};
 
 // H'100, H'101 and H'102.
 pub struct HeardFrames {
@@ -19,16 +19,16 @@ pub struct HeardFrames {
     pub status: StatusFrame,
 }
 
-// Which record is the newest of each kind, counted from 1; 0 where there is none.
-struct Newest {
+// The number of the newest record of each kind, counted from 1; 0 where there is none.
+struct Found {
     battery: usize,
     time: usize,
     status: usize,
 }
 
-impl Newest {
-    // With a further record, of that number.
-    fn with(self, frame: &[u8], number: usize) -> Newest
+impl Found {
+    // The same with a further record, which is the newest of its kind.
+    fn with(self, frame: &[u8], number: usize) -> Found
         requires { ⌜ length (now frame) ≡ recordSize ⌝ }
         ensures { λ r. ⌜ r ≡ withRecord (now (frame .entry)) number self ⌝ }
     {
@@ -39,17 +39,17 @@ impl Newest {
         let time = self.time;
         let status = self.status;
         match u16_at(frame, FrameRecord::IDENTIFIER) {
-            BatteryFrame::IDENTIFIER => Newest {
+            BatteryFrame::IDENTIFIER => Found {
                 battery: number,
                 time,
                 status,
             },
-            TimeFrame::IDENTIFIER => Newest {
+            TimeFrame::IDENTIFIER => Found {
                 battery,
                 time: number,
                 status,
             },
-            StatusFrame::IDENTIFIER => Newest {
+            StatusFrame::IDENTIFIER => Found {
                 battery,
                 time,
                 status: number,
@@ -58,12 +58,12 @@ impl Newest {
         }
     }
 
-    // Of those that the count takes in.
-    fn among(records: &[u8], count: u8) -> Newest
-        ensures { λ r. ⌜ r ≡ newestAmong (now (records .entry)) (min count (length (now (records .entry)) / recordSize)) ⌝ }
+    // Among the first `count` records.
+    fn among(records: &[u8], count: u8) -> Found
+        ensures { λ r. ⌜ r ≡ foundAmong (now (records .entry)) (min count (length (now (records .entry)) / recordSize)) ⌝ }
     {
         let end = lesser(count as usize, records.len() / FrameRecord::SIZE);
-        let mut newest = Newest {
+        let mut found = Found {
             battery: 0,
             time: 0,
             status: 0,
@@ -72,9 +72,9 @@ impl Newest {
         while n < end {
             let at = FrameRecord::SIZE * n;
             n += 1;
-            newest = newest.with(&records[at..at + FrameRecord::SIZE], n);
+            found = found.with(&records[at..at + FrameRecord::SIZE], n);
         }
-        newest
+        found
     }
 }
 
@@ -82,11 +82,11 @@ impl HeardFrames {
     pub fn newest(records: &[u8], count: u8) -> HeardFrames
         ensures { λ r. ⌜ r ≡ newestFrames count (now (records .entry)) ⌝ }
     {
-        let newest = Newest::among(records, count);
+        let found = Found::among(records, count);
         HeardFrames {
-            battery: BatteryFrame::read(numbered_record(records, newest.battery)),
-            time: TimeFrame::read(numbered_record(records, newest.time)),
-            status: StatusFrame::read(numbered_record(records, newest.status)),
+            battery: BatteryFrame::read(numbered_record(records, found.battery)),
+            time: TimeFrame::read(numbered_record(records, found.time)),
+            status: StatusFrame::read(numbered_record(records, found.status)),
         }
     }
 }

@@ -1,4 +1,4 @@
-// Names for document 01's numbers of phases and stop reasons.
+// Names for all of document 01's numbers of phases and stop reasons, those that the code has no need of too.
 
 pub struct Phase;
 

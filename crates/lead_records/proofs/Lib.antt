@@ -1,7 +1,6 @@
--- Laws. For the functions here: numbers in a part of a record, bytes that are zero, and a buffer written in two parts.
+-- Laws. For the functions here: numbers in a part of a record, and bytes that are zero.
 -- For those above: the round trips of a state, and what is read of an input and shown in an output.
 pub mod Parts
 pub mod Zeros
-pub mod Joins
 pub mod RoundTrip
 pub mod Shown

@@ -1,7 +1,7 @@
 -- Document 01, 'The post's two calls' and 'Frames': the 24 bytes that a lead shows, "All show the state after the tick". Definitions only.
 use mathlib.Core.Bool.{Bool, not, cond, _||_}
 use mathlib.Core.List.{List, [], _∷_, _++_}
-use Prim.Native.Nat.{ℕ}
+use Prim.Native.Nat.{ℕ, _*_}
 use lib.Dec.{eqb}
 use Rattle.little_endian.specs.Numbers.{lowByte, highByte}
 use Rattle.little_endian.specs.Flags.{byteOf}
@@ -23,6 +23,13 @@ use Rattle.lead_records.specs.declared.outputs.ShownReading.{ShownReadin
 -- "Output, 24 a lead"
 abbrev pub outputSize : ℕ
 outputSize = 24
+
+-- the two frames at its end, eight bytes each
+abbrev pub frameSize : ℕ
+frameSize = 8
+
+abbrev pub framesSize : ℕ
+framesSize = 2 * frameSize
 
 -- "3 bits d1 (phases 1–8), d2 (5–8), lock (2–9), frames to be sent (1–9)"
 unfoldable pub switches : ℕ → ℕ

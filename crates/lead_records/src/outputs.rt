@@ -19,7 +19,7 @@ ghost use mathlib.Core.Path.{_≡_};
 ghost use mathlib.Core.List.{_++_};
 ghost use Rattle.frames.specs.Sent.{offerBytes, reportBytes};
 ghost use lib.ListN.{length};
-ghost use Rattle.lead_records.specs.Outputs.{outputSize, switches, testVolts, offerOf, flagsOf, remainingOf, shownReading, reportOf, whileSending, outputOf};
+ghost use Rattle.lead_records.specs.Outputs.{outputSize, framesSize, switches, testVolts, offerOf, flagsOf, remainingOf, shownReading, reportOf, whileSending, outputOf};
 
 // The output's size, the places in it, and the weights in its byte of switches.
 pub struct OutputRecord;
@@ -170,7 +170,7 @@ impl OutputRecord {
 
     // H'108 and H'109, zeros where none is sent.
     fn write_frames(ratings: Ratings, lock: bool, reading: Judged, lead: Lead, frames: &mut [u8])
-        requires { ⌜ length (now frames) ≡ 16 ⌝ }
+        requires { ⌜ length (now frames) ≡ framesSize ⌝ }
         ensures { λ _. ⌜ now (frames .exit) ≡ whileSending (lead .stage .phase) (offerBytes (offerOf ratings lead))
             ++ whileSending (lead .stage .phase) (reportBytes (reportOf lock reading lead)) ⌝ }
     {

@@ -164,7 +164,7 @@ impl StateRecord {
     }
 }
 
-// The spare bytes, four at a time.
+// The spare bytes, four at a time as a number, for fewer tests.
 fn is_spare_zero(bytes: &[u8]) -> bool
     requires { ⌜ length (now bytes) ≡ stateSize ⌝ }
     ensures { λ r. ⌜ r ≡ allZero (drop spareFrom (now (bytes .entry))) ⌝ }

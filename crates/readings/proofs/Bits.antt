@@ -49,7 +49,7 @@ with-one s k d = go (eqb (suc k) 255) (eqb d 0)
     go false z t = odd-val 24 s (8388608 + d) k 149
 
 -- a bit pattern without its sign, and its fields, as the code takes them
-abbrev pub magnitude : ℕ → ℕ
+abbrev magnitude : ℕ → ℕ
 magnitude b = b % 0x8000_0000
 
 abbrev pub exponent : ℕ → ℕ
@@ -81,9 +81,10 @@ module _ (x : Float) (f : T (fits binary32 x)) (t : T (within 1000 x)) where
 
   -- ---- `least` by the fields
 
-  least-zero : exponent bits ≡ 0 → fraction bits ≡ 0 → least x ≡ 0
-  least-zero z d =
-      least-of (fraction bits * 2 ^ 0) (2 ^ 149) (pow-pos 149) x t (subnormal z)
+  pub least-nothing : magnitude bits ≡ 0 → least x ≡ 0
+  least-nothing z =
+      let d : fraction bits ≡ 0 = omega arith in
+      least-of (fraction bits * 2 ^ 0) (2 ^ 149) (pow-pos 149) x t (subnormal (omega arith))
       ∙ ap (λ (n : ℕ). ceiling (stepsPerUnit * (n * 2 ^ 0)) (2 ^ 149)) d
 
   least-subnormal : exponent bits ≡ 0 → (fraction bits ≡ 0 → ⊥) → least x ≡ 1
@@ -128,11 +129,7 @@ module _ (x : Float) (f : T (fits binary32 x)) (t : T (within 1000 x)) where
         ∙ mul-assoc (stepsPerUnit * significand) (2 ^ k) (2 ^ d)
         ∙ ap (λ (n : ℕ). stepsPerUnit * significand * n) (sym (pow-add 2 k d) ∙ ap (λ (n : ℕ). 2 ^ n) e))
 
-  -- ---- and by exponent and fraction taken as one number
-
-  pub least-nothing : magnitude bits ≡ 0 → least x ≡ 0
-  least-nothing z = least-zero (omega arith) (omega arith)
-
+  -- less than 1 / 128, and not 0
   pub least-tiny : magnitude bits < 120 * 0x80_0000 → (magnitude bits ≡ 0 → ⊥) → least x ≡ 1
   least-tiny h n = go (exponent bits) refl
     where

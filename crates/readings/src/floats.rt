@@ -32,8 +32,8 @@ fn rounded_up(n: u64, by: u32) -> u64
     (n + (unit - 1)) >> by
 }
 
-// Bits below these, an exponent field of 120, stand for less than 1 / 128: less than a step.
-const BITS_OF_A_STEP: u32 = 120 * 0x80_0000;
+// Bits below these, which are those of 1 / 128, stand for less than a step.
+const BITS_OF_A_128TH: u32 = 120 * 0x80_0000;
 
 // By the exponent and fraction fields.
 pub(crate) fn least_steps(x: f32) -> u16
@@ -42,7 +42,7 @@ pub(crate) fn least_steps(x: f32) -> u16
 {
     let bits = f32::to_bits(x);
     let magnitude = bits % 0x8000_0000;
-    if magnitude < BITS_OF_A_STEP {
+    if magnitude < BITS_OF_A_128TH {
         return if magnitude == 0 { 0 } else { 1 };
     }
     let exponent = magnitude / 0x80_0000;

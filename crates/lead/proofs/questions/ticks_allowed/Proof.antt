@@ -1,5 +1,5 @@
 -- `lead::questions::ticks_allowed` meets its contract. A row a phase; before the first and past its end the list gives 0. Assumes nothing.
-use mathlib.Core.Path.{_≡_, sym, ap}
+use mathlib.Core.Path.{_≡_, sym}
 use mathlib.Core.Logic.{_⊎_, inl, inr}
 use Prim.Native.Nat.{ℕ, _≤_}
 use native.Mathlib.Omega.{arith}

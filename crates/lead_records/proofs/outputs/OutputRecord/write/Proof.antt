@@ -2,10 +2,10 @@
 use borrow.Author.Needs.{needs}
 use mathlib.Core.List.{List, [], _∷_, append-assoc}
 use mathlib.Core.Path.{refl, _∙_}
-use Prim.Native.Nat.{ℕ}
+use Prim.Native.Nat.{ℕ, _-_}
 use denote.Ref.{now}
-use Rattle.lead_records.specs.Outputs.{shownBytes, outputOf}
-use Rattle.lead_records.proofs.Joins.{copied-both}
+use Rattle.lead_records.specs.Outputs.{outputSize, framesSize, shownBytes, outputOf}
+use Rattle.common.proofs.Copied.{copied-both}
 use Rattle.lead_records.proofs.outputs.OutputRecord.write.Statement.{statement}
 use Rattle.lead_records.proofs.outputs.OutputRecord.write.Tie as tie
 
@@ -28,7 +28,7 @@ returns c =
     ∷ 0
     ∷ 0
     ∷ [] in
-    copied-both w (now (a .output)) (m .copy .last .1 .0) (m .copy .ensures .1) 8 q refl
+    copied-both w (now (a .output)) (m .copy .last .1 .0) (m .copy .ensures .1) (outputSize - framesSize) q refl
     ∙ rw (
       k .write-frames .ensures,
       h .high-byte .ensures,

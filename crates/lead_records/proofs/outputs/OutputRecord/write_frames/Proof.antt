@@ -7,7 +7,8 @@ use native.Mathlib.Omega.{arith}
 use denote.Ref.{now}
 use lib.ListN.{length, take, drop, replicate, length-take, length-drop}
 use Rattle.frames.specs.Sent.{offerBytes, reportBytes}
-use Rattle.lead_records.proofs.Joins.{copied-all, copied-both}
+use Rattle.lead_records.specs.Outputs.{frameSize, framesSize}
+use Rattle.common.proofs.Copied.{copied-all, copied-both}
 use Rattle.lead_records.proofs.outputs.OutputRecord.write_frames.Statement.{statement}
 use Rattle.lead_records.proofs.outputs.OutputRecord.write_frames.Tie as tie
 
@@ -22,10 +23,10 @@ returns c =
     let a = i .before .before .args in
     let p = m .copy .last .1 .0 in
     let q = k .copy2 .last .1 .0 in
-    let rest = take (length p - 8) (drop 8 p) in
-    let long : length (r .report .result) ≡ 8 = ap length (r .report .ensures) in
+    let rest = take (length p - frameSize) (drop frameSize p) in
+    let long : length (r .report .result) ≡ frameSize = ap length (r .report .ensures) in
     let short : length rest ≤ length (r .report .result) = simp (length-take, length-drop) (omega arith) in
-    copied-both (o .offer .result) (now (a .frames)) p (m .copy .ensures .1) 8 q (ap length (o .offer .ensures))
+    copied-both (o .offer .result) (now (a .frames)) p (m .copy .ensures .1) frameSize q (ap length (o .offer .ensures))
     ∙ ap (λ x. o .offer .result ++ x) (copied-all (r .report .result) rest q (k .copy2 .ensures .1) short)
     ∙ rw (i .if1 .taken, o .offer .ensures, r .report .ensures)
 
@@ -34,7 +35,7 @@ returns-2 c =
     let k = c .before .before in
     let i = k .before .before .before in
     let a = i .before .before .args in
-    copied-all (replicate 16 0) (now (a .frames)) (k .copy3 .last .1 .0) (k .copy3 .ensures .1) (omega arith) ∙ rw (i .if1 .left)
+    copied-all (replicate framesSize 0) (now (a .frames)) (k .copy3 .last .1 .0) (k .copy3 .ensures .1) (omega arith) ∙ rw (i .if1 .left)
 
 pub write-frames-spec : {M : Type 1} → statement M
 write-frames-spec =

@@ -1,12 +1,12 @@
--- A buffer that is written in one go, or in two: its beginning, then the rest. Assumes nothing.
+-- A list copied over a buffer, the whole of it or its beginning. Assumes nothing.
 use mathlib.Core.List.{List, _++_, append-nil}
 use mathlib.Core.Path.{_≡_, ap, _∙_}
-use Prim.Native.Nat.{ℕ, _+_, _-_, _≤_}
+use Prim.Native.Nat.{ℕ, _-_, _≤_}
 use native.Mathlib.Omega.{arith}
-use lib.ListN.{length, take, drop, length-append, length-drop, drop-of-length-le}
+use lib.ListN.{length, take, drop, length-append, drop-of-length-le}
 use lib.Seq.{take-at, drop-at, take-length}
 
--- w copied over a list l
+-- w copied over l
 module _ (w l p : List ℕ) (copied : p ≡ take (length w) w ++ drop (length w) l) where
   begun : p ≡ w ++ drop (length w) l
   begun = copied ∙ ap (λ x. x ++ drop (length w) l) (take-length w)

@@ -1,10 +1,10 @@
--- `frames::newest::Newest::with` meets its contract. By length and identifier of the record. Assumes nothing.
+-- `frames::newest::Found::with` meets its contract. By length and identifier of the record. Assumes nothing.
 use borrow.Author.Needs.{needs}
-use borrow.Author.Tests.{ne-eqb, eq-eqb}
+use borrow.Author.Tests.{ne-eqb}
 use Rattle.frames.specs.Records.{isFrame}
 use Rattle.common.proofs.Bools.{and-false}
-use Rattle.frames.proofs.newest.Newest.with.Statement.{statement}
-use Rattle.frames.proofs.newest.Newest.with.Tie as tie
+use Rattle.frames.proofs.newest.Found.with.Statement.{statement}
+use Rattle.frames.proofs.newest.Found.with.Tie as tie
 
 returns : tie.Need-returns
 unfolding isFrame
