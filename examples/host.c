@@ -1,7 +1,7 @@
 /*
  * A small host: a post with two leads, ticked through a written session. It prints what happens
  * at the leads, in brackets, and what the support desk sees: phase, amperes, threshold, reason,
- * and which switches are on.
+ * which switches are on, and the kilowatt-hours of a lead when it ends.
  *
  * The session shows why one lead may give 62 A and the lead beside it 125 A: both cars ask for
  * 125 A and the post has 50,000 W, so that each lead gets 25,000 W. At 400 V that carries 62
@@ -246,6 +246,18 @@ static void show_lead(unsigned now, unsigned lead, const uint8_t *record, const 
     *desk = (struct desk){phase, reason, threshold, desk->shown_amperes, amperes, change};
 }
 
+/* What a lead that ends was commanded, down to whole watt-hours. Its age is 0 in the tick of the
+ * move alone, so that it is shown once. What this board gave is another figure, as commands know
+ * nothing of a cut by the host. */
+static void show_energy(unsigned now, unsigned lead, const uint8_t *record) {
+    unsigned long long watt_hours =
+        post_get_u64(record + POST_LEAD_ENERGY) / (POST_WATT_TICKS_PER_KWH / 1000);
+
+    if (record[POST_LEAD_PHASE] == POST_PHASE_ENDED && post_get_u32(record + POST_LEAD_AGE) == 0)
+        printf("tick %3u  lead %u: commanded %llu.%03llu kWh since its start\n", now, lead + 1,
+               watt_hours / 1000, watt_hours % 1000);
+}
+
 static void show_refusal(unsigned now, uint32_t number, const struct board *boards) {
     printf("tick %3u  refused with %lu: %s", now, (unsigned long)number, NAME_OF(answers, number));
     for (unsigned lead = 0; lead < LEADS; lead++)
@@ -286,6 +298,7 @@ int main(void) {
             if (number == POST_DONE) {
                 drive(&boards[lead], output + POST_OUTPUT_LEAD(lead));
                 show_lead(now, lead, output + POST_OUTPUT_LEAD(lead), &boards[lead], &desk[lead]);
+                show_energy(now, lead, state + POST_STATE_LEAD(lead));
             } else {
                 cut_off(&boards[lead]);
                 desk[lead].phase = -1; /* so that the next tick done is shown */

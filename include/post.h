@@ -18,14 +18,14 @@
  * - The buffers of one call do not overlap.
  * - No other thread touches them during the call.
  * - Between the calls the state belongs to the library: keep it and hand it back byte for byte.
- *   Looking at it is harmless.
+ *   Looking at it is harmless, and is how a host reads a lead's energy.
  *
  * Everything else is checked: any numbers, any lengths and any bytes are carried out or refused
  * with the first number below that fits. A refused call changes no byte of state or output.
  *
  * What the calls need:
  * - Alignment: none. A buffer may begin at any address.
- * - Stack: less than 1 kB (measured with four leads: 648 bytes in a tick, 56 in setup). Where the
+ * - Stack: less than 1 kB (measured with four leads: 712 bytes in a tick, 56 in setup). Where the
  *   C library is bound at its first call, that call takes more; 16 kB are enough for a thread.
  * - Threads: the library has no memory of its own, so calls on different buffers may run at once.
  *   A host may keep several posts, each with its own state.
@@ -102,6 +102,10 @@ static inline uint16_t post_get_u16(const uint8_t *place) {
 
 static inline uint32_t post_get_u32(const uint8_t *place) {
     return post_get_u16(place) | (uint32_t)post_get_u16(place + 2) << 16;
+}
+
+static inline uint64_t post_get_u64(const uint8_t *place) {
+    return post_get_u32(place) | (uint64_t)post_get_u32(place + 4) << 32;
 }
 
 /* The 32 bits of a float, as setup takes them and the buffers hold them. */
@@ -193,7 +197,7 @@ static inline float post_get_float(const uint8_t *place) {
  * might pass for good and mean something else: begin anew with setup, when all leads are unplugged.
  * Do so after a break of more than a tick too, as a state goes on as if no time had passed.
  */
-#define POST_STATE_VERSION 1
+#define POST_STATE_VERSION 2
 
 /* State: its head. */
 #define POST_HEAD_LEADS            0
@@ -216,10 +220,24 @@ static inline float post_get_float(const uint8_t *place) {
 #define POST_LEAD_TIME_TENS       14 /* that byte of H'101 */
 #define POST_LEAD_TIME_MINUTES    15 /* that byte of H'101 */
 #define POST_LEAD_AGE             16 /* 4 bytes, ticks that it has stayed in its phase */
-#define POST_LEAD_SPARE           20 /* from here to the end 0 */
+#define POST_LEAD_ENERGY          20 /* 8 bytes, watt-ticks, see below */
+#define POST_LEAD_SPARE           28 /* from here to the end 0 */
 
 /* The silence counts from the start of the lead on, before its first H'102 too; a tick with an
  * H'102 sets it to 0. In phases 0, 9 and 10 it stands still. */
+
+/*
+ * The energy is what the lead was commanded since its latest start: amperes times the threshold's
+ * volts, summed over the ticks done. The start (phase 0 to 1) sets it to 0, and nothing else does
+ * but setup: it is kept while the lead is ended and idle. A host that wants it of each charge reads
+ * it before the next start, best when the lead comes to POST_PHASE_ENDED, as every started one does
+ * before it is idle again.
+ * So it is no meter's kilowatt-hours, no bound on what flowed (the meter's amperes are held to the
+ * rating, see POST_REASON_OVERCURRENT, not to the command) and nothing to bill by. It never wraps:
+ * it stops at its largest value, 2^64 - 1, which would take 584,000 years of ticks at 200 A and
+ * 500 V.
+ */
+#define POST_WATT_TICKS_PER_KWH 36000000 /* 1000 W for 3600 s of ten ticks */
 
 /* Which frames of the car the lead has seen since its start. */
 #define POST_SEEN_H100 0x01

@@ -5,12 +5,13 @@
 
 #define STATUS_KEPT (UNUSED_STATUS + POST_STATUS_ENABLED)
 #define ALL_SEEN    (POST_SEEN_H100 + POST_SEEN_H101 + POST_SEEN_H102)
+#define COMMANDED   (2 + 4 + 6 + 8 + 10 + 12) /* amperes, tick by tick */
 
 /* What the state holds after two quiet ticks of charging, and then in the tick of a stop. */
 static const struct place {
     const char *name;
     size_t place, length;
-    uint32_t values[2];
+    uint64_t values[2];
 } places[] = {
     {NAMED(POST_LEAD_PHASE), 1, {POST_PHASE_CHARGING, POST_PHASE_RAMP_DOWN}},
     {NAMED(POST_LEAD_REASON), 1, {POST_REASON_NONE, POST_REASON_STOP_BUTTON}},
@@ -26,6 +27,7 @@ static const struct place {
     {NAMED(POST_LEAD_TIME_TENS), 1, {TIME_TENS, TIME_TENS}},
     {NAMED(POST_LEAD_TIME_MINUTES), 1, {TIME_MINUTES, TIME_MINUTES}},
     {NAMED(POST_LEAD_AGE), 4, {5, 0}},
+    {NAMED(POST_LEAD_ENERGY), 8, {COMMANDED * RATED_VOLTS, (COMMANDED + 2) * RATED_VOLTS}},
 };
 
 /* The places follow each other up to the spare bytes. */
@@ -46,7 +48,7 @@ static void try_helpers(void) {
         uint32_t bits;
         float number;
     } floats[] = {{0, 0}, {0x80000000, -0.0F}, {0x3D800000, 0.0625F}, {0x4B7FFFFE, 16777214}};
-    uint8_t bytes[6];
+    uint8_t bytes[10];
     memset(bytes, 1, sizeof bytes);
     for (unsigned i = 0; i <= 0xFFFF; i++) {
         about("number", i);
@@ -62,6 +64,12 @@ static void try_helpers(void) {
         CHECK(post_get_u32(bytes + 1), floats[i].bits);
         CHECK(post_float_bits(post_get_float(bytes + 1)), floats[i].bits);
         CHECK(bytes[0] + bytes[5], 2);
+    }
+    for (unsigned i = 0; i < 8; i++) {
+        about("byte", i);
+        memset(bytes + 1, 0, 8);
+        bytes[1 + i] = 0xFF;
+        CHECK(post_get_u64(bytes + 1), (uint64_t)0xFF << 8 * i);
     }
 }
 
@@ -94,6 +102,46 @@ static void try_silence(void) {
     }
 }
 
+/* The energy after a tick with the scene of phase `into`, in phase `from` with this energy. */
+static uint64_t energy_after(unsigned from, unsigned into, uint64_t energy) {
+    uint8_t *place = state + POST_STATE_LEAD(LEAD) + POST_LEAD_ENERGY;
+    reach(from);
+    post_put_u32(place, (uint32_t)(energy & 0xFFFFFFFF));
+    post_put_u32(place + 4, (uint32_t)(energy >> 32));
+    CHECK(tick_scene(&way[into].scene), POST_DONE);
+    return state_at(POST_LEAD_ENERGY, 8);
+}
+
+/* Each phase kept and left: 2 A are commanded on the move into charging, 4 A in the tick after it.
+ * Then what 2 A bring it to: a carry through all bytes, and the largest value, which remains. */
+static void try_energy(void) {
+    static const uint64_t some = 0x0102030405060708;
+    static const struct {
+        uint64_t before, after;
+    } rows[] = {
+        {0x00FFFFFFFFFFFFFF, 0x0100000000000000 + 2 * RATED_VOLTS - 1},
+        {UINT64_MAX - 2 * RATED_VOLTS, UINT64_MAX},
+        {UINT64_MAX - 1, UINT64_MAX},
+        {UINT64_MAX, UINT64_MAX},
+    };
+    for (unsigned i = 0; i < PHASES; i++) {
+        about("energy in phase", i);
+        CHECK(energy_after(i, i, some), some + (i == POST_PHASE_CHARGING ? 4 * RATED_VOLTS : 0));
+        CHECK(energy_after(i, (i + 1) % PHASES, some),
+              i == POST_PHASE_IDLE                ? 0
+              : i == POST_PHASE_CONTACTOR_CLOSING ? some + 2 * RATED_VOLTS
+                                                  : some);
+    }
+    for (unsigned i = 0; i < sizeof rows / sizeof *rows; i++) {
+        about("energy in row", i);
+        CHECK(energy_after(POST_PHASE_CONTACTOR_CLOSING, POST_PHASE_CHARGING, rows[i].before),
+              rows[i].after);
+    }
+    about("energy after setup", 0);
+    set_up();
+    CHECK(state_at(POST_LEAD_ENERGY, 8), 0);
+}
+
 static void try_places(void) {
     struct scene talking = way[POST_PHASE_CHARGING].scene;
     struct scene quiet = talking;
@@ -108,7 +156,7 @@ static void try_places(void) {
 }
 
 /* The frames seen after one frame in the last record. */
-static uint32_t seen_after(uint16_t identifier, uint8_t length, uint8_t count) {
+static uint64_t seen_after(uint16_t identifier, uint8_t length, uint8_t count) {
     static const uint8_t data[POST_FRAME_DATA_LENGTH];
     uint8_t *lead = input + POST_INPUT_LEAD(LEAD);
     uint8_t *frame = lead + POST_INPUT_FRAME(POST_FRAME_RECORDS - 1);
@@ -138,16 +186,18 @@ static void try_frames(void) {
 }
 
 /*
- * What no answer of the library can show: it never names the frames that it sends, and it takes
- * volts and amperes only together. Document 01's numbers and its order stand for it here. The
- * edition of the state is that of the places above: whoever changes these raises it.
+ * What no answer of the library can show: it never names the frames that it sends, it takes volts
+ * and amperes only together, and it counts no kilowatt-hours. Document 01's numbers and its order
+ * stand for it here, and a thousand watts for an hour of seconds, ten ticks each. The edition of
+ * the state is that of the places above: whoever changes these raises it.
  */
 static void try_unseen(void) {
     about("document", 1);
     CHECK(POST_H108, 0x108);
     CHECK(POST_H109, 0x109);
     CHECK(POST_PRESENT_VOLTS < POST_PRESENT_AMPERES, 1);
-    CHECK(POST_STATE_VERSION, 1);
+    CHECK(POST_WATT_TICKS_PER_KWH, 1000 * 3600 * 10);
+    CHECK(POST_STATE_VERSION, 2);
 }
 
 void try_records(void) {
@@ -155,6 +205,7 @@ void try_records(void) {
     try_head();
     try_places();
     try_silence();
+    try_energy();
     try_frames();
     try_unseen();
 }

@@ -103,16 +103,20 @@ static void try_bytes(uint32_t answer) {
     try_tick(POST_STATE_LENGTH(LEADS), POST_INPUT_LENGTH(LEADS), POST_OUTPUT_LENGTH(LEADS), answer);
 }
 
-/* A 1 in a byte of an idle lead: no reason, no command without charging, no threshold, spare. */
+/* A 1 in a byte of an idle lead: no reason, no command without charging, no threshold, spare. The
+ * energy may be any number, a spare byte none: there every other value is tried too. */
 static void try_state_bytes(void) {
     memset(input, 0, sizeof input);
     for (size_t i = 0; i < POST_LEAD_LENGTH; i++) {
         int is_bad = i == POST_LEAD_REASON || i == POST_LEAD_COMMAND || i == POST_LEAD_THRESHOLD ||
                      i >= POST_LEAD_SPARE;
+        unsigned most = i < POST_LEAD_ENERGY ? 1 : 0xFF;
         about("state byte", i);
-        set_up();
-        state[POST_STATE_LEAD(LEAD) + i] = 1;
-        try_bytes(is_bad ? POST_REFUSED_STATE : POST_DONE);
+        for (unsigned value = 1; value <= most; value++) {
+            set_up();
+            state[POST_STATE_LEAD(LEAD) + i] = (uint8_t)value;
+            try_bytes(is_bad ? POST_REFUSED_STATE : POST_DONE);
+        }
     }
 }
 

@@ -35,15 +35,18 @@ void put_frame(uint8_t *record, uint16_t identifier, const uint8_t *data) {
     memcpy(record + POST_FRAME_DATA, data, POST_FRAME_DATA_LENGTH);
 }
 
-static uint32_t number_at(const uint8_t *place, size_t length) {
-    return length == 1 ? *place : length == 2 ? post_get_u16(place) : post_get_u32(place);
+static uint64_t number_at(const uint8_t *place, size_t length) {
+    return length == 1   ? *place
+           : length == 2 ? post_get_u16(place)
+           : length == 4 ? post_get_u32(place)
+                         : post_get_u64(place);
 }
 
-uint32_t state_at(size_t place, size_t length) {
+uint64_t state_at(size_t place, size_t length) {
     return number_at(state + POST_STATE_LEAD(LEAD) + place, length);
 }
 
-uint32_t output_at(size_t place, size_t length) {
+uint64_t output_at(size_t place, size_t length) {
     return number_at(output + POST_OUTPUT_LEAD(LEAD) + place, length);
 }
 

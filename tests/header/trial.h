@@ -31,9 +31,9 @@ void about(const char *what, unsigned long number);
 
 void put_frame(uint8_t *record, uint16_t identifier, const uint8_t *data);
 
-/* The number of one, two or four bytes in the tried lead's part of state and output. */
-uint32_t state_at(size_t place, size_t length);
-uint32_t output_at(size_t place, size_t length);
+/* The number of one, two, four or eight bytes in the tried lead's part of state and output. */
+uint64_t state_at(size_t place, size_t length);
+uint64_t output_at(size_t place, size_t length);
 
 /* The bytes that come in of which each bit has a meaning of its own. */
 enum { CONTACTS, PRESENT, FAULTS, STATUS, BIT_BYTES };

@@ -1,21 +1,31 @@
 //! Why a call is refused: every number that fits, every flaw that there is.
 
 use second::lead::*;
-use second::post::{self, ALLOWANCE_BYTES};
+use second::post::{self, ALLOWANCE_BYTES, HEAD_BYTES};
 use second::sharing::MOST_LEADS;
 use shared::numbers::{Numbers, PLAIN};
 
 use crate::compare::Call;
 use crate::numbers;
 
-/// A setup, with the length of its state and what was answered.
+/// A setup, with the length of its state, whether a lead charges in it, and what was answered.
 pub struct Setup {
     pub numbers: Numbers,
     pub length: usize,
+    pub charges: bool,
     pub number: u32,
 }
 
 impl Setup {
+    pub fn new(call: &Call, numbers: Numbers, number: u32) -> Setup {
+        Setup {
+            numbers,
+            length: call.state.len(),
+            charges: charges(&call.state),
+            number,
+        }
+    }
+
     pub fn right_length(&self) -> usize {
         post::state_bytes(self.numbers.leads as usize)
     }
@@ -46,11 +56,21 @@ fn setup_fits(Numbers { leads, volts, amperes, resistance }: Numbers, length: us
     fits
 }
 
-/// A tick, with what was answered. Of one that is refused: all refusals after that of the state
-/// that fit, all flaws of its state or its input, and the lead that alone makes the state a bad
-/// one, by one flaw.
+/// Whether a lead has energy, and a command that adds to it.
+fn charges(state: &[u8]) -> bool {
+    let (records, _) = state.get(HEAD_BYTES..).unwrap_or_default().as_chunks();
+    records.iter().any(|record: &[u8; STATE_BYTES]| {
+        let energy = &record[place::ENERGY..place::SPARE];
+        record[place::COMMAND] > 0 && energy.iter().any(|&byte| byte > 0)
+    })
+}
+
+/// A tick, with what was answered, and whether a lead charges in its state. Of one that is refused:
+/// all refusals after that of the state that fit, all flaws of its state or its input, and the lead
+/// that alone makes the state a bad one, by one flaw.
 pub struct Tick {
     pub number: u32,
+    pub charges: bool,
     pub fits: Vec<u32>,
     pub flaws: Vec<String>,
     pub bad_lead: Option<BadLead>,
@@ -65,6 +85,7 @@ impl Tick {
     pub fn new(call: &Call, number: u32) -> Tick {
         let mut tick = Tick {
             number,
+            charges: charges(&call.state),
             fits: Vec::new(),
             flaws: Vec::new(),
             bad_lead: None,

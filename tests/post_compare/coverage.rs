@@ -81,11 +81,7 @@ impl Coverage {
     pub fn count(&mut self, part: usize, call: &Call, number: u32) {
         self.calls += 1;
         if let Some(numbers) = call.numbers {
-            let setup = Setup {
-                length: call.state.len(),
-                numbers,
-                number,
-            };
+            let setup = Setup::new(call, numbers, number);
             return self.setups.count(part, &setup);
         }
         self.ticks.count(part, &Tick::new(call, number));

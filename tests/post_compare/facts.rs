@@ -39,6 +39,8 @@ pub fn of_setups() -> Table<Setup> {
     let mut table = Table::of(SETUPS);
     for answer in [DONE].into_iter().chain(SETUP_REFUSALS) {
         table.row(WITH_REFUSALS, format!("setup returns {answer}"), move |setup| setup.number == answer);
+        table.row(WITH_REFUSALS, format!("setup returns {answer} where a lead charges"), move |setup|
+            setup.number == answer && setup.charges);
     }
     for (first, later) in pairs(&SETUP_REFUSALS) {
         table.row(GARBLED, format!("setup returns {first}, where {later} fits too"), move |setup|
@@ -92,6 +94,7 @@ pub fn of_ticks() -> Table<Tick> {
     let mut table = Table::of(&[([200_000, 100_000, 5_000], "tick is carried out", |tick: &Tick| tick.number == DONE)]);
     for answer in TICK_REFUSALS {
         table.row(EVERYWHERE, format!("tick returns {answer}"), move |tick| tick.number == answer);
+        table.row(REACHED, format!("tick returns {answer} where a lead charges"), move |tick| tick.number == answer && tick.charges);
     }
     for (first, later) in pairs(&TICK_REFUSALS) {
         table.row(WITH_REFUSALS, format!("tick returns {first}, where {later} fits too"), move |tick|
@@ -110,7 +113,8 @@ pub fn of_ticks() -> Table<Tick> {
         table.row(HANDED_IN, flaw.clone(), move |tick| tick.flaws == [flaw.as_str()]);
     }
     for at in place::SPARE..STATE_BYTES {
-        table.row(HANDED_IN, format!("6 alone: byte {at} of a lead not 0"), move |tick| tick.has_bad_lead(|lead| lead.record[at] != 0));
+        table.row(HANDED_IN, format!("6 alone: spare byte {at} of a lead alone"), move |tick|
+            tick.has_bad_lead(|lead| alone(&lead.record[place::SPARE..], at - place::SPARE)));
     }
     for bit in SEEN_ALL.count_ones()..8 {
         table.row(HANDED_IN, format!("6 alone: seen bit {bit}"), move |tick|
@@ -128,6 +132,12 @@ pub fn of_ticks() -> Table<Tick> {
         table.row(*least, text.to_string(), move |tick| tick.has_bad_lead(holds));
     }
     table
+}
+
+/// Whether of these bytes the one in this place is not 0, and no other.
+fn alone(bytes: &[u8], place: usize) -> bool {
+    let mut places = bytes.iter().enumerate();
+    places.all(|(at, &byte)| (byte != 0) == (at == place))
 }
 
 impl BadLead {
@@ -164,6 +174,7 @@ pub fn of_posts() -> Table<[Turn]> {
             turns.iter().filter(|turn| matches!(turn.after.phase, 6 | 7)).count() == leads);
         table.row(REACHED, format!("leads that want more than there is: {leads}"), move |turns|
             turns.iter().filter(|turn| turn.want > 0).count() == leads && any_short(turns));
+        table.row(REACHED, format!("energy of lead {leads} grows"), move |turns| turns.get(leads - 1).is_some_and(Turn::grows));
     }
     for (name, ohms) in CABLES {
         table.row(REACHED, format!("cable resistance {name}"), move |turns|
@@ -195,6 +206,11 @@ const POSTS: &[Fact<[Turn]>] = &[
     (REACHED, "a lead ramps down while another charges", |turns| any_wants_in(turns, 7) && any_wants_in(turns, 6)),
     (SESSIONS, "a lead starts anew while another charges", |turns| any_wants_in(turns, 6)
         && turns.iter().any(|turn| turn.moved_from(0) && turn.before.reason != 0)),
+    (REACHED, "two energies grow by different watts", |turns| turns.iter().any(|turn|
+        turn.grows() && turns.iter().any(|other| other.grows() && other.watts() != turn.watts()))),
+    (REACHED, "one energy grows, another is cleared", |turns| turns.iter().any(Turn::grows) && turns.iter().any(Turn::clears)),
+    (HANDED_IN, "one energy grows, another is cut short", |turns| turns.iter().any(|turn| turn.grows() && turn.watts() < turn.room())
+        && turns.iter().any(|turn| turn.grows() && turn.watts() > turn.room())),
     (REACHED, "another cable resistance", |turns| !CABLES.iter().any(|cable| cable.1 == turns[0].standing.rating.cable_resistance)),
 ];
 
@@ -210,6 +226,14 @@ pub fn of_turns() -> Table<Turn> {
         if phase != 6 {
             table.row(REACHED, format!("move from {phase}"), move |turn| turn.moved_from(phase));
         }
+        // A start clears it, and no move ends 6.
+        if !matches!(phase, 0 | 6) {
+            table.row(with_energy(phase), format!("energy kept by the move from {phase}"), move |turn|
+                turn.moved_from(phase) && turn.keeps_energy());
+        }
+        table.row(with_energy(phase), format!("energy kept in {phase}"), move |turn| turn.stayed_in(phase) && turn.keeps_energy());
+        table.row(HANDED_IN, format!("good: energy of eight bytes in {phase}"), move |turn|
+            turn.before.phase == phase && !turn.before.energy.to_le_bytes().contains(&0));
         table.row(HANDED_IN, format!("age 4,294,967,295 in {phase}"), move |turn| turn.at_age(phase, u32::MAX));
     }
     for question in &QUESTIONS {
@@ -225,8 +249,9 @@ pub fn of_turns() -> Table<Turn> {
         let questions = QUESTIONS.iter().filter(|question| question.urgent == is_urgent);
         let phases: BTreeSet<u8> = questions.flat_map(|question| question.first..=question.last).collect();
         for phase in phases {
-            table.row(REACHED, format!("{kind} stop from {phase}"), move |turn| matches!(turn.decision,
-                Decision::Stopped { urgent, from, .. } if urgent == is_urgent && from == phase));
+            table.row(REACHED, format!("{kind} stop from {phase}"), move |turn| turn.stopped_as(is_urgent, phase));
+            table.row(with_energy(phase), format!("energy kept by an {kind} stop from {phase}"), move |turn|
+                turn.stopped_as(is_urgent, phase) && turn.keeps_energy());
         }
     }
     for (phase, limit) in (0..).zip(AGE_LIMITS).skip(1) {
@@ -243,6 +268,23 @@ pub fn of_turns() -> Table<Turn> {
     }
     for bit in 0..FAULTS.count_ones() {
         table.row(REACHED, format!("stop 20 for fault {bit} alone"), move |turn| turn.stopped_for_faults(1 << bit, 0));
+    }
+    for phase in [6, 7] {
+        for (kind, holds) in ROOMS {
+            table.row(HANDED_IN, format!("energy {kind} in {phase}"), move |turn|
+                turn.after.phase == phase && turn.watts() > 0 && holds(turn.room(), turn.watts()));
+        }
+    }
+    for at in place::ENERGY..place::SPARE {
+        table.row(HANDED_IN, format!("good: byte {at} of the energy alone"), move |turn|
+            alone(&turn.before.energy.to_le_bytes(), at - place::ENERGY));
+    }
+    for at in place::ENERGY + 1..place::SPARE {
+        let below = (1 << (8 * (at - place::ENERGY))) - 1;
+        table.row(HANDED_IN, format!("energy just doesn't carry into byte {at}"), move |turn|
+            turn.grows() && turn.after.energy & below == below && turn.after.energy != u64::MAX);
+        table.row(HANDED_IN, format!("energy just carries into byte {at}"), move |turn|
+            turn.grows() && turn.after.energy & below == 0 && turn.before.energy & below != 0);
     }
     // A session leaves phase 1 after all three frames.
     for seen in 0..SEEN_ALL {
@@ -285,6 +327,24 @@ pub fn of_turns() -> Table<Turn> {
     }
     table
 }
+
+/// A session's lead has no energy between its start and 6.
+const fn with_energy(phase: u8) -> Counts {
+    match phase {
+        1..=5 => HANDED_IN,
+        _ => REACHED,
+    }
+}
+
+/// How much more the energy can be, and the watts that come to it. No session lasts so long.
+#[rustfmt::skip]
+const ROOMS: [(&str, fn(u64, u64) -> bool); 5] = [
+    ("comes to one short of its largest value", |room, watts| room == watts + 1),
+    ("comes to its largest value exactly", |room, watts| room == watts),
+    ("is cut short by 1", |room, watts| room == watts - 1),
+    ("is cut short to 1", |room, watts| room == 1 && watts > 2),
+    ("stays at its largest value", |room, _| room == 0),
+];
 
 /// What a car sends. H'100 and H'101 are heard in 1, H'102 in 1 to 8.
 #[rustfmt::skip]
@@ -337,6 +397,10 @@ impl Turn {
         matches!(self.decision, Decision::Stopped { from, .. } if from == phase)
     }
 
+    fn stopped_as(&self, is_urgent: bool, phase: u8) -> bool {
+        matches!(self.decision, Decision::Stopped { urgent, from, .. } if urgent == is_urgent && from == phase)
+    }
+
     /// These and no others.
     fn stopped_for_faults(&self, faults: u8, system_fault: u8) -> bool {
         let car = &self.after.car;
@@ -346,6 +410,26 @@ impl Turn {
 
     fn is_short(&self) -> bool {
         self.want > self.level
+    }
+
+    /// In energy.
+    fn grows(&self) -> bool {
+        self.after.energy > self.before.energy
+    }
+
+    /// Its energy, by a start.
+    fn clears(&self) -> bool {
+        self.moved_from(0) && self.before.energy > 0
+    }
+
+    /// How much energy it could take before the tick.
+    fn room(&self) -> u64 {
+        u64::MAX - self.before.energy
+    }
+
+    /// It has some, and nothing comes to it.
+    fn keeps_energy(&self) -> bool {
+        self.before.energy > 0 && self.after.energy == self.before.energy && self.watts() == 0
     }
 
     fn lowered_into(&self, phase: u8) -> bool {
@@ -414,6 +498,24 @@ const TURNS: &[Fact<Turn>] = &[
     (REACHED, "more wanted in 7 than the level", |turn| turn.after.phase == 7 && turn.is_short()),
     (REACHED, "the level wanted exactly", |turn| turn.want > 0 && turn.want == turn.level),
     (REACHED, "level 0 in 6", |turn| turn.after.phase == 6 && turn.is_short() && turn.level == 0),
+
+    (REACHED, "energy grows in 6", |turn| turn.stayed_in(6) && turn.grows()),
+    (REACHED, "energy grows in 7", |turn| turn.stayed_in(7) && turn.grows()),
+    (REACHED, "energy grows by the move from 5", |turn| turn.moved_from(5) && turn.grows()),
+    (HANDED_IN, "energy above 0 grows by the move from 5", |turn| turn.moved_from(5) && turn.grows() && turn.before.energy > 0),
+    (REACHED, "energy grows by a stop from 6", |turn| turn.stopped_in(6) && turn.grows()),
+    (REACHED, "energy grows by a raised command", |turn| turn.grows() && turn.after.command > turn.before.command),
+    (REACHED, "energy grows by a lowered command in 6", |turn| turn.grows() && turn.lowered_into(6)),
+    (REACHED, "energy grows by less than the level", |turn| turn.grows() && turn.is_short() && turn.watts() < turn.level.into()),
+    (REACHED, "energy grows at less than rated volts", |turn| turn.grows() && turn.after.threshold < turn.standing.rating.volts),
+    (REACHED, "energy grows at less than the maximum voltage", |turn| turn.grows() && turn.after.threshold < turn.after.maximum_voltage),
+    (REACHED, "energy grows at more than the target voltage", |turn| turn.grows() && turn.after.threshold > turn.after.car.target_voltage),
+    (REACHED, "energy kept by an urgent stop that cuts a command off", |turn| turn.lowered_into(9) && turn.keeps_energy()),
+    (HANDED_IN, "energy kept at age 30 with a command cut off", |turn| turn.lowered_into(8) && turn.keeps_energy()),
+    (REACHED, "energy cleared by a start", |turn| turn.clears()),
+    (HANDED_IN, "energy cleared from its largest value", |turn| turn.clears() && turn.room() == 0),
+    (REACHED, "energy kept in 0, start button pressed", |turn| turn.stayed_in(0) && turn.keeps_energy()
+        && turn.input[input_place::CONTACTS] & contact::START_BUTTON != 0),
 
     (REACHED, "reason remains in 7", |turn| turn.stopped_in(7) && turn.before.reason != 0 && turn.after.reason == turn.before.reason),
     (REACHED, "reason remains in 8", |turn| turn.stopped_in(8) && turn.before.reason != 0 && turn.after.reason == turn.before.reason),

@@ -35,8 +35,8 @@ pub fn run(run: &mut Run) -> Result<(), String> {
     Ok(())
 }
 
-/// A tick of a state, good or not, all cars going on or not. One in twelve has something else
-/// wrong.
+/// A tick of a state, good or not, all cars going on or not. One in three has its energies moved,
+/// one in twelve has something else wrong.
 fn call_on(state: Vec<u8>, going_on: bool, dice: &mut Dice) -> Call {
     let mut inputs = Vec::new();
     if let Some((head, records)) = state.split_first_chunk() {
@@ -53,6 +53,9 @@ fn call_on(state: Vec<u8>, going_on: bool, dice: &mut Dice) -> Call {
         false => edge(turns, dice),
     };
     let mut call = Call::tick(state, inputs, allowance, dice);
+    if dice.one_in(3) {
+        states::move_energies(&mut call, dice);
+    }
     if dice.one_in(12) {
         call.spoil_beside_the_state(dice);
     }

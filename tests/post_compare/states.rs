@@ -11,8 +11,10 @@ use shared::post::number;
 use shared::scene::NOT_READY;
 use shared::stops::{any_question, reasons};
 
+use crate::compare::Call;
 use crate::flaws::{a_record, spare_byte, spoil_length};
 use crate::numbers;
+use crate::turns::turns;
 
 /// Any state: now and then with a bad head or length, with fields moved.
 pub fn any(dice: &mut Dice) -> Vec<u8> {
@@ -80,6 +82,7 @@ fn good_lead(phase: u8, rating: &Rating, dice: &mut Dice) -> Lead {
         phase,
         reason: if matches!(phase, 1..=6) { 0 } else { reason },
         command: if matches!(phase, 6 | 7) { command } else { 0 },
+        energy: draw_energy(dice),
         car: CarStatus {
             target_voltage: between(LEAST_VOLTS, threshold, dice),
             requested_amperes: dice.byte() | dice.byte(),
@@ -107,6 +110,40 @@ fn draw_threshold(phase: u8, rating: &Rating, dice: &mut Dice) -> u16 {
     }
     let any = between(LEAST_VOLTS, rating.volts, dice);
     dice.pick(&[LEAST_VOLTS, rating.volts, any])
+}
+
+/// Nothing is asked of it: none, one byte alone, any.
+fn draw_energy(dice: &mut Dice) -> u64 {
+    let any = u64::from_le_bytes(dice.bytes());
+    let byte = u64::from(dice.byte()) << whole_bytes(dice);
+    let short = any >> dice.below(u64::BITS);
+    dice.pick(&[0, byte, short, any])
+}
+
+/// In bits, and not all that an energy has.
+fn whole_bytes(dice: &mut Dice) -> u32 {
+    8 * dice.below(u64::BITS / 8)
+}
+
+/// Hands in energies that the tick brings to an edge, or finds there: where some of the low bits
+/// are full, or all bits.
+pub fn move_energies(call: &mut Call, dice: &mut Dice) {
+    // A tick that is refused adds nothing.
+    let Some(turns) = turns(&call.state, &call.input) else {
+        return;
+    };
+    let (records, _) = call.state[HEAD_BYTES..].as_chunks_mut::<STATE_BYTES>();
+    for (turn, record) in turns.iter().zip(records) {
+        let some = whole_bytes(dice);
+        let full = dice.pick(&[some, u64::BITS / 2, u64::BITS]);
+        let above = u64::from_le_bytes(dice.bytes());
+        // Past all bits stands 0 again.
+        let edge = above.checked_shl(full).unwrap_or(0);
+        let watts = turn.watts() * dice.pick(&[0, 1, 1]);
+        let beside = dice.pick(&[-2, -1, 0, 1]);
+        let energy = edge.wrapping_sub(watts).wrapping_add_signed(beside);
+        record[place::ENERGY..place::SPARE].copy_from_slice(&energy.to_le_bytes());
+    }
 }
 
 /// At least `least`, though `most` be below it.

@@ -25,6 +25,13 @@ pub struct Turn {
     pub past_the_count: Heard,
 }
 
+impl Turn {
+    /// What the tick adds to the energy, as far as there is room for it.
+    pub fn watts(&self) -> u64 {
+        u64::from(self.after.command) * u64::from(self.after.threshold)
+    }
+}
+
 /// `None` if the tick is refused for its state or its input.
 pub fn turns(state: &[u8], input: &[u8]) -> Option<Vec<Turn>> {
     let (head, records) = state.split_first_chunk::<HEAD_BYTES>()?;

@@ -2,7 +2,8 @@
 //!
 //! A tick of a lead has two halves, as the division of the allowance lies
 //! between them: `advance` hears, asks and moves; `take` commands what the
-//! level allows. `output` then shows the state after the tick.
+//! level allows and counts its energy. `output` then shows the state after the
+//! tick, but for the energy, which is not shown.
 
 use crate::frames::{self, CarStatus, ChargerFlags, ChargingTime, Record, Ticks};
 use crate::readings::{insulation_holds, Measured, Meter, Reading};
@@ -27,7 +28,10 @@ pub mod place {
     pub const TIME_BYTE_1: usize = 14;
     pub const TIME_BYTE_2: usize = 15;
     pub const AGE: usize = 16;
-    pub const SPARE: usize = 20;
+    /// 2026-01: "A count of watt-ticks in eight of the lead's spare state bytes
+    /// (20–27)."
+    pub const ENERGY: usize = 20;
+    pub const SPARE: usize = 28;
 }
 
 /// Places in a lead's part of the input.
@@ -129,6 +133,8 @@ pub struct Lead {
     pub phase: u8,
     pub reason: u8,
     pub command: u8,
+    /// In watt-ticks, since the lead's start.
+    pub energy: u64,
     pub car: CarStatus,
     pub silence: u8,
     pub seen: u8,
@@ -150,7 +156,8 @@ const fn condition(text: &'static str, holds: fn(&StateRecord, &Rating) -> bool)
     Condition { text, holds }
 }
 
-/// "State a good one": what a lead's record owes to it.
+/// "State a good one": what a lead's record owes to it. Of the energy (2026-01)
+/// nothing is asked, in any phase.
 #[rustfmt::skip]
 pub const GOOD: [Condition; 9] = [
     condition("phase 0-10", |record, _| record[place::PHASE] <= LAST_PHASE),
@@ -185,6 +192,7 @@ impl Lead {
         phase: 0,
         reason: REASON_NONE,
         command: 0,
+        energy: 0,
         car: CarStatus {
             target_voltage: 0,
             requested_amperes: 0,
@@ -214,6 +222,7 @@ impl Lead {
             phase: record[place::PHASE],
             reason: record[place::REASON],
             command: record[place::COMMAND],
+            energy: u64::from_le_bytes(bytes_at(record, place::ENERGY)),
             car: CarStatus {
                 target_voltage: number_at(record, place::TARGET_VOLTAGE),
                 requested_amperes: record[place::REQUEST],
@@ -249,7 +258,8 @@ impl Lead {
             .copy_from_slice(&self.car.target_voltage.to_le_bytes());
         record[place::TIME_BYTE_1] = self.charging_time.byte_1;
         record[place::TIME_BYTE_2] = self.charging_time.byte_2;
-        record[place::AGE..place::SPARE].copy_from_slice(&self.age.to_le_bytes());
+        record[place::AGE..place::ENERGY].copy_from_slice(&self.age.to_le_bytes());
+        record[place::ENERGY..place::SPARE].copy_from_slice(&self.energy.to_le_bytes());
         record[place::SPARE..].fill(0);
     }
 }
@@ -563,7 +573,8 @@ impl Lead {
 
     fn move_to(&mut self, phase: u8, rating: &Rating) {
         match phase {
-            // "Then everything remembered is zeroed."
+            // "Then everything remembered is zeroed." The energy too: 2026-01,
+            // "zeroed at each start", and by no other move or stop.
             1 => *self = Lead::FRESH,
             2 => self.threshold = self.threshold_to_keep(rating),
             _ => {}
@@ -613,6 +624,16 @@ impl Lead {
         let watts = self.want(rating).min(level);
         let amperes = watts.checked_div(u32::from(self.threshold)).unwrap_or(0);
         self.command = amperes as u8;
+        self.count_energy();
+    }
+
+    /// 2026-01: "Every tick adds command × threshold to a count of watt-ticks."
+    /// The new command and the kept threshold, in 6 and 7 alike; elsewhere the
+    /// command is 0. "It stops at its largest value", which the last addition
+    /// reaches, cut short if need be.
+    fn count_energy(&mut self) {
+        let watts = u64::from(self.command) * u64::from(self.threshold);
+        self.energy = self.energy.saturating_add(watts);
     }
 }
 

@@ -1,8 +1,8 @@
 //! The post's lead controller and power divider, written a second time.
 //!
-//! It describes document 01 in plain code, in the order of the document, and
-//! gives the expected answers for tests. Each layer knows only those above it
-//! in this list:
+//! It describes document 01, with request 2026-01 of document 02, in plain
+//! code, in the order of document 01, and gives the expected answers for tests.
+//! Each layer knows only those above it in this list:
 //!
 //! - `readings`: what the meter board gives, and the whole numbers made of it
 //! - `frames`: what the car sends and what the post sends

@@ -2,6 +2,7 @@
 //! Most are tables of cases: what is done, what comes out.
 
 mod bench;
+mod energy;
 mod output;
 mod phases;
 mod questions;
@@ -79,7 +80,8 @@ impl Case {
     fn number(self, at: usize, value: u16) -> Case { self.byte(at, value as u8).byte(at + 1, (value >> 8) as u8) }
     fn voltages(self, most: u16, target: u16) -> Case { self.number(MAXIMUM_VOLTAGE, most).number(TARGET_VOLTAGE, target) }
     fn time(self, byte_1: u8, byte_2: u8) -> Case { self.byte(TIME_BYTE_1, byte_1).byte(TIME_BYTE_2, byte_2) }
-    fn age(mut self, age: u32) -> Case { self.state[AGE..SPARE].copy_from_slice(&age.to_le_bytes()); self }
+    fn age(mut self, age: u32) -> Case { self.state[AGE..ENERGY].copy_from_slice(&age.to_le_bytes()); self }
+    fn energy(mut self, energy: u64) -> Case { self.state[ENERGY..SPARE].copy_from_slice(&energy.to_le_bytes()); self }
 
     fn input(self, change: impl Fn(LeadInput) -> LeadInput) -> Case { Case { input: change(self.input), ..self } }
     fn close(self, contacts: u8) -> Case { self.input(|input| input.close(contacts)) }
@@ -118,8 +120,18 @@ impl After {
     fn phase_and_reason(&self) -> (u8, u8) { (self.output[output_place::PHASE], self.output[output_place::REASON]) }
     fn command(&self) -> u8 { self.output[output_place::COMMAND] }
     fn number(&self, at: usize) -> u16 { u16::from_le_bytes([self.state[at], self.state[at + 1]]) }
-    fn age(&self) -> u32 { u32::from_le_bytes(self.state[AGE..SPARE].try_into().unwrap()) }
+    fn age(&self) -> u32 { u32::from_le_bytes(self.state[AGE..ENERGY].try_into().unwrap()) }
+    fn energy(&self) -> u64 { u64::from_le_bytes(self.state[ENERGY..SPARE].try_into().unwrap()) }
     fn h109(&self) -> &[u8] { &self.output[output_place::H109..] }
+}
+
+/// A fixed small generator of bytes.
+fn generator() -> impl FnMut() -> u8 {
+    let mut seed = 0x2545_F491_4F6C_DD1Du64;
+    move || {
+        seed = seed.wrapping_mul(6_364_136_223_846_793_005).wrapping_add(1);
+        (seed >> 56) as u8
+    }
 }
 
 /// Rows of a phase, a change of its case, and what is then shown.
@@ -134,7 +146,7 @@ fn check<T: PartialEq + std::fmt::Debug>(show: fn(&After) -> T, rows: &[(u8, Cha
 fn places_and_bits_have_the_documents_numbers() {
     assert_eq!([PHASE, REASON, COMMAND, REQUEST, FAULTS, STATUS, SILENCE, SEEN], [0, 1, 2, 3, 4, 5, 6, 7]);
     assert_eq!([THRESHOLD, MAXIMUM_VOLTAGE, TARGET_VOLTAGE], [8, 10, 12]);
-    assert_eq!([TIME_BYTE_1, TIME_BYTE_2, AGE, SPARE], [14, 15, 16, 20]);
+    assert_eq!([TIME_BYTE_1, TIME_BYTE_2, AGE, ENERGY, SPARE], [14, 15, 16, 20, 28]);
     assert_eq!([PLUG, CHARGE_PERMISSION, CONNECTOR_LOCK, EMERGENCY_STOP], [1, 2, 4, 8]);
     assert_eq!([STOP_BUTTON, START_BUTTON, GROUND_FAULT], [16, 32, 64]);
     assert_eq!([present::VOLTS, present::AMPERES, present::RESISTANCE], [1, 2, 4]);

@@ -7,7 +7,8 @@ use native.Mathlib.Omega.{arith}
 use lib.Dec.{T, eqb}
 use borrow.Author.Tests.{ne-eqb}
 use Rattle.common.specs.Tests.{between}
-use Rattle.lead.specs.Power.{wanted, wantedWatts, commanded}
+use Rattle.lead.specs.Figures.{mostEnergy}
+use Rattle.lead.specs.Power.{wanted, wantedWatts, energyAfter, commanded}
 use Rattle.lead.specs.declared.state.Lead.{Lead}
 use Rattle.lead.specs.declared.state.Ratings.{Ratings}
 use Rattle.common.proofs.Bools.{between-of}
@@ -29,6 +30,11 @@ module _ (c : Ratings) (level : ℕ) (s : Lead) where
   pub command-is : commanded c level s .command ≡ min (wantedWatts c s) level / s .threshold
   unfolding commanded
   command-is = refl
+
+  -- 2026-01: what the new command adds
+  pub command-energy : commanded c level s .energy ≡ min (s .energy + commanded c level s .command * s .threshold) mostEnergy
+  unfolding commanded energyAfter
+  command-energy = refl
 
   -- what is commanded is no more than the smaller of want and level
   pub command-watts : commanded c level s .command * s .threshold ≤ min (wantedWatts c s) level

@@ -101,6 +101,7 @@ module _ (c : Ratings) (i : Input) (s : Lead) where
 pub record WentOn (c : Ratings) (i : Input) (s : Lead) : Type 0 where
   pub car : decide c i s .car ≡ hear i s .lead .car
   pub command : decide c i s .command ≡ cond (between 6 7 (phaseAfter c i s)) (s .command) 0
+  pub energy : decide c i s .energy ≡ s .energy
   pub threshold :
       decide c i s .threshold
       ≡ cond (eqb (s .stage .phase) handshake && eqb (phaseAfter c i s) locking) (thresholdNow c (hear i s)) (s .threshold)
@@ -109,7 +110,7 @@ pub record WentOn (c : Ratings) (i : Input) (s : Lead) : Type 0 where
 
 pub not-started : (c : Ratings) (i : Input) (s : Lead) → start c i s ≡ false → WentOn c i s
 unfolding decide advance goOn hear viewOf
-not-started c i s e = record { car = rw e; command = rw e; threshold = rw e; reason = rw e; age = rw e }
+not-started c i s e = record { car = rw e; command = rw e; energy = rw e; threshold = rw e; reason = rw e; age = rw e }
 
 -- a lead that is past phase 0 is not started
 pub past-start : (c : Ratings) (i : Input) (s : Lead) → 1 ≤ s .stage .phase → start c i s ≡ false

@@ -1,14 +1,15 @@
 -- A lead's whole tick, at any level: what the phase in which it ends says of the inputs and of the command. Assumes nothing.
-use mathlib.Core.Bool.{Bool, not, _&&_}
+use mathlib.Core.Bool.{Bool, true, false, not, cond, _&&_}
 use mathlib.Core.Logic.{_⊎_, inl, inr}
-use mathlib.Core.Path.{_≡_, ap, _∙_}
-use Prim.Native.Nat.{ℕ, _+_, _-_, _≤_, _<_, min}
+use mathlib.Core.Path.{_≡_, refl, sym, ap, _∙_}
+use Prim.Native.Nat.{ℕ, _+_, _-_, _*_, _≤_, _<_, min}
 use native.Mathlib.Omega.{arith}
 use lib.Dec.{T, eqb, leb→le, ltb→lt, eqb→eq}
 use lib.Ieee.Fits.{and-i, and-l, and-r}
 use borrow.Author.Tests.{eq-eqb}
 use Rattle.frames.specs.Heard.{signalsOf}
 use Rattle.common.specs.Tests.{between}
+use Rattle.lead.specs.Figures.{mostEnergy}
 use Rattle.lead.specs.Hearing.{hear}
 use Rattle.lead.specs.Moves.{decide}
 use Rattle.lead.specs.Power.{wanted, commanded}
@@ -22,8 +23,8 @@ use Rattle.common.proofs.Bools.{holds, is-true, imp, mp, between-of, between-lo
 use Rattle.lead.proofs.Phases as phases
 use Rattle.lead.proofs.Phases.{isPass, isUrgent}
 use Rattle.lead.proofs.Answers.{verdict, UrgentYes, OrdinaryYes, urgent-yes, ordinary-yes}
-use Rattle.lead.proofs.Ticks.{may, phaseAfter, move-met, decide-phase, not-started, past-start}
-use Rattle.lead.proofs.Commands.{command-stage, command-car, command-most, command-0, want-6, want-7}
+use Rattle.lead.proofs.Ticks.{may, phaseAfter, start, move-met, started, decide-phase, not-started, past-start}
+use Rattle.lead.proofs.Commands.{command-stage, command-threshold, command-car, command-energy, command-most, command-0, want-6, want-7}
 
 abbrev pub ticked : Ratings → ℕ → Input → Lead → Lead
 ticked c level i s = commanded c level (decide c i s)
@@ -135,6 +136,17 @@ module _ (c : Ratings) (i : Input) (s : Lead) (p≤ : s .stage .phase ≤ 10) wh
           closed = contactor (at-or-past 5 p lo);
         }
 
+  -- 2026-01: "zeroed at each start"
+  decided-energy : decide c i s .energy ≡ cond (start c i s) 0 (s .energy)
+  decided-energy = go (start c i s) refl
+    where
+      go : (b : Bool) → start c i s ≡ b → decide c i s .energy ≡ cond b 0 (s .energy)
+      go true e =
+          let both : T (eqb p 0 && eqb q 1) = holds e in
+          ap (λ (x : Lead). x .energy)
+          (started c i s (eqb→eq p 0 (and-l (eqb p 0) (eqb q 1) both)) (eqb→eq q 1 (and-r (eqb p 0) (eqb q 1) both)))
+      go false e = not-started c i s e .energy
+
   -- the command, at any level
   module _ (level : ℕ) where
     pub ticked-phase : ticked c level i s .stage .phase ≡ q
@@ -149,6 +161,16 @@ module _ (c : Ratings) (i : Input) (s : Lead) (p≤ : s .stage .phase ≤ 10) wh
 
     pub ticked-car : 1 ≤ p → ticked c level i s .car ≡ hear i s .lead .car
     ticked-car h = command-car c level (decide c i s) ∙ not-started c i s (past-start c i s h) .car
+
+    -- 2026-01: a start zeroes the count, and every tick adds its command times the threshold
+    pub ticked-energy :
+        ticked c level i s .energy
+        ≡ min (cond (start c i s) 0 (s .energy) + ticked c level i s .command * ticked c level i s .threshold) mostEnergy
+    ticked-energy =
+        command-energy c level (decide c i s)
+        ∙ ap (λ n. min (n + ticked c level i s .command * decide c i s .threshold) mostEnergy) decided-energy
+        ∙ ap (λ n. min (cond (start c i s) 0 (s .energy) + ticked c level i s .command * n) mostEnergy)
+        (sym (command-threshold c level (decide c i s)))
 
     -- in 6 it is at most what the car asks for, the rating, and 2 A above the one before
     pub ticked-6 : q ≡ 6 → ticked c level i s .command ≤ min (min (hear i s .lead .car .status .value .request) (c .amperes)) (s .command + 2)

@@ -1,4 +1,4 @@
--- The figures of document 01's questions and moves, by name. Definitions only.
+-- The figures of document 01's questions and moves and of document 02's requests, by name. Definitions only.
 use Prim.Native.Nat.{ℕ, _+_, _*_}
 use Rattle.readings.specs.Value.{stepsPerUnit}
 
@@ -46,3 +46,7 @@ raise = 2
 
 abbrev pub fall : ℕ
 fall = 10
+
+-- 2026-01: the "largest value" of eight bytes, in watt-ticks
+abbrev pub mostEnergy : ℕ
+mostEnergy = 18446744073709551615

@@ -12,6 +12,7 @@ abbrev pub blank : ℕ → Lead
 blank p =
     record {
       stage = record { phase = p; reason = noReason; age = 0 };
+      energy = 0;
       command = 0;
       threshold = 0;
       car =
@@ -29,13 +30,16 @@ fresh = blank idle
 
 -- Each replaces one of them and keeps the others, so that a rule names only what it changes.
 abbrev pub withStage : Stage → Lead → Lead
-withStage stage s = record { stage = stage; command = s .command; threshold = s .threshold; car = s .car }
+withStage stage s = record { stage = stage; energy = s .energy; command = s .command; threshold = s .threshold; car = s .car }
+
+abbrev pub withEnergy : ℕ → Lead → Lead
+withEnergy wattTicks s = record { stage = s .stage; energy = wattTicks; command = s .command; threshold = s .threshold; car = s .car }
 
 abbrev pub withCommand : ℕ → Lead → Lead
-withCommand amperes s = record { stage = s .stage; command = amperes; threshold = s .threshold; car = s .car }
+withCommand amperes s = record { stage = s .stage; energy = s .energy; command = amperes; threshold = s .threshold; car = s .car }
 
 abbrev pub withThreshold : ℕ → Lead → Lead
-withThreshold volts s = record { stage = s .stage; command = s .command; threshold = volts; car = s .car }
+withThreshold volts s = record { stage = s .stage; energy = s .energy; command = s .command; threshold = volts; car = s .car }
 
 abbrev pub withCar : Car → Lead → Lead
-withCar car s = record { stage = s .stage; command = s .command; threshold = s .threshold; car = car }
+withCar car s = record { stage = s .stage; energy = s .energy; command = s .command; threshold = s .threshold; car = car }

@@ -89,7 +89,7 @@ goOn v verdict q heard =
     (withThreshold (cond (eqb p handshake && eqb q locking) (v .threshold) (s .threshold))
     (withCommand (cond (between 6 7 q) (s .command) 0) s))
 
--- "0 to 1 … Then everything remembered is zeroed."
+-- "0 to 1 … Then everything remembered is zeroed." 2026-01: the count too is "zeroed at each start", and nowhere else.
 unfoldable pub advance : View → Verdict → HeardLead → Lead
 advance v verdict heard =
     let p : ℕ = heard .lead .stage .phase in

@@ -1,10 +1,11 @@
--- Document 01, 'Dividing the allowance': what a lead wants, and its command at a level that is handed in. Definitions only.
+-- Document 01, 'Dividing the allowance': what a lead wants, its command at a level that is handed in, and the energy counted by request
+-- 2026-01. Definitions only.
 use mathlib.Core.Bool.{cond}
 use Prim.Native.Nat.{ℕ, _+_, _-_, _*_, _/_, min}
 use lib.Dec.{eqb}
 use Rattle.lead.specs.Names.{charging, rampDown}
-use Rattle.lead.specs.Figures.{raise, fall}
-use Rattle.lead.specs.Leads.{withCommand}
+use Rattle.lead.specs.Figures.{raise, fall, mostEnergy}
+use Rattle.lead.specs.Leads.{withCommand, withEnergy}
 use Rattle.lead.specs.declared.state.Lead.{Lead}
 use Rattle.lead.specs.declared.state.Ratings.{Ratings}
 
@@ -20,5 +21,15 @@ wantedWatts c s = wanted c s * s .threshold
 
 -- "Each new command is that smaller number", of want and level, "divided by the threshold, rounded down; outside 6 and 7 it is 0":
 -- there the want is 0. A lead without a threshold gets 0, as x / 0 is 0.
+abbrev pub newCommand : Ratings → ℕ → Lead → ℕ
+newCommand c level s = min (wantedWatts c s) level / s .threshold
+
+-- 2026-01: the "count of watt-ticks" once the watts of a tick are added. "It stops at its largest value."
+unfoldable pub energyAfter : ℕ → ℕ → ℕ
+energyAfter energy watts = min (energy + watts) mostEnergy
+
+-- 2026-01: "Every tick adds command × threshold", the command being the new one
 unfoldable pub commanded : Ratings → ℕ → Lead → Lead
-commanded c level s = withCommand (min (wantedWatts c s) level / s .threshold) s
+commanded c level s =
+    let command : ℕ = newCommand c level s in
+    withCommand command (withEnergy (energyAfter (s .energy) (command * s .threshold)) s)

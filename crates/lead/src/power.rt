@@ -1,4 +1,4 @@
-// What a lead wants of the post's power, and the command that a level gives it.
+// What a lead wants of the post's power, the command that a level gives it, and the energy that this adds.
 use super::figures::Figure;
 use super::names::Phase;
 use super::numbers::lesser;
@@ -7,7 +7,7 @@ use super::state::Ratings;
 ghost use mathlib.Core.Path.{_≡_};
 ghost use Prim.Native.Nat.{_-_, _*_, _/_, min};
 ghost use Rattle.lead.specs.Figures.{fall};
-ghost use Rattle.lead.specs.Power.{wanted, wantedWatts, commanded};
+ghost use Rattle.lead.specs.Power.{wanted, wantedWatts, energyAfter, commanded};
 
 // At least 0.
 fn lowered(command: u8) -> u8
@@ -40,6 +40,18 @@ fn carried(wanted: u8, volts: u16, level: u32) -> u8
     (level / (volts as u32)) as u8
 }
 
+// A tick's watts added to the count, which stops at its largest value.
+fn energy_after(energy: u64, watts: u32) -> u64
+    ensures { λ r. ⌜ r ≡ energyAfter energy watts ⌝ }
+{
+    let added = watts as u64;
+    if added <= u64::MAX - energy {
+        energy + added
+    } else {
+        u64::MAX
+    }
+}
+
 impl Lead {
     fn wanted(self, ratings: Ratings) -> u8
         ensures { λ r. ⌜ r ≡ wanted ratings self ⌝ }
@@ -67,7 +79,9 @@ impl Lead {
     pub fn command(mut self, ratings: Ratings, level: u32) -> Lead
         ensures { λ r. ⌜ r ≡ commanded ratings level self ⌝ }
     {
-        self.command = carried(self.wanted(ratings), self.threshold, level);
+        let command = carried(self.wanted(ratings), self.threshold, level);
+        self.energy = energy_after(self.energy, watts(command, self.threshold));
+        self.command = command;
         self
     }
 }

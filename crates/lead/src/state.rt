@@ -20,9 +20,10 @@ pub struct Ratings {
     pub resistance: u32,
 }
 
-// The threshold voltage is 0 until it is kept; command is in amperes.
+// Energy is what was commanded since the start, in watt-ticks; command is in amperes; the threshold voltage is 0 until it is kept.
 pub struct Lead {
     pub stage: Stage,
+    pub energy: u64,
     pub command: u8,
     pub threshold: u16,
     pub car: Car,
@@ -98,6 +99,7 @@ impl Lead {
                 reason: Reason::NONE,
                 age: 0,
             },
+            energy: 0,
             command: 0,
             threshold: 0,
             car: Car {

@@ -9,14 +9,14 @@ use lib.Dec.{T, leb, eqb, leb→le, eqb→eq}
 use lib.ListN.{length, getD, drop, replicate, length-drop}
 use lib.Ieee.Fits.{and-l, and-r}
 use borrow.Author.Tests.{le-leb}
-use Rattle.little_endian.specs.Numbers.{byteAt, u16At, lowByte, highByte}
+use Rattle.little_endian.specs.Numbers.{byteAt, u16At, u32At, lowByte, highByte, lowHalf, highHalf, lowWord, highWord}
 use Rattle.little_endian.specs.Flags.{bitAt, byteOf}
 use Rattle.lead.specs.Good.{goodLead}
 use Rattle.lead.specs.declared.state.Lead.{Lead}
 use Rattle.lead.specs.declared.state.Ratings.{Ratings}
 use Rattle.common.proofs.Spelled.{spelled-is}
 use Rattle.little_endian.proofs.Bits.{bit-back, byte-below}
-use Rattle.little_endian.proofs.Bytes.{u16-back, u32-back, low-byte-back, high-byte-back, low-half-back, high-half-back}
+use Rattle.little_endian.proofs.Bytes.{u16-back, u32-back, u64-back, low-byte-back, high-byte-back, low-half-back, high-half-back, low-word-back, high-word-back}
 use Rattle.common.proofs.Bools.{upTo-at}
 use Rattle.lead_records.specs.States.{stateSize, seenByte, spareFrom, spareBytes, unusedClear, decode, encode, allZero, goodState}
 
@@ -30,6 +30,9 @@ decode-encode s =
       u16-back (car .battery .maximum),
       u16-back (car .status .value .target),
       u32-back (s .stage .age),
+      u32-back (lowWord (s .energy)),
+      u32-back (highWord (s .energy)),
+      u64-back (s .energy),
       seen 0,
       seen 1,
       seen 2,
@@ -60,16 +63,31 @@ module _ (b : List ℕ) (long : length b ≡ stateSize) (small : (n : ℕ) → g
   high : (n : ℕ) → highByte (u16At b n) ≡ getD b (n + 1) 0
   high n = high-byte-back (getD b n 0) (getD b (n + 1) 0) (small n)
 
-  half-small : u16At b 16 < 65536
-  half-small = omega (arith, small 16, small 17)
+  half-small : (n : ℕ) → u16At b n < 65536
+  half-small n = omega (arith, small n, small (n + 1))
+
+  low-half : (n : ℕ) → lowHalf (u32At b n) ≡ u16At b n
+  low-half n = low-half-back (u16At b n) (u16At b (n + 2)) (half-small n)
+
+  high-half : (n : ℕ) → highHalf (u32At b n) ≡ u16At b (n + 2)
+  high-half n = high-half-back (u16At b n) (u16At b (n + 2)) (half-small n)
+
+  word-small : u32At b 20 < 4294967296
+  word-small = omega (arith, half-small 20, half-small 22)
 
   -- the other way round, for bytes whose unused bits and bytes are clear, as those of every good state are
   pub encode-decode : encode (decode b) ≡ b
   unfolding encode decode
   encode-decode =
       rw (
-        low-half-back (u16At b 16) (u16At b 18) half-small,
-        high-half-back (u16At b 16) (u16At b 18) half-small,
+        low-word-back (u32At b 20) (u32At b 24) word-small,
+        high-word-back (u32At b 20) (u32At b 24) word-small,
+        low-half 16,
+        high-half 16,
+        low-half 20,
+        high-half 20,
+        low-half 24,
+        high-half 24,
         low 8,
         high 8,
         low 10,
@@ -80,6 +98,14 @@ module _ (b : List ℕ) (long : length b ≡ stateSize) (small : (n : ℕ) → g
         high 16,
         low 18,
         high 18,
+        low 20,
+        high 20,
+        low 22,
+        high 22,
+        low 24,
+        high 24,
+        low 26,
+        high 26,
         seen-again (getD b 7 0) (leb→le (byteAt b 7) 7 (and-l few (allZero (drop spareFrom b)) clear)),
         ← spare-zero,
       )

@@ -5,7 +5,8 @@ use mathlib.Core.Path.{_≡_, refl}
 use Prim.Native.Nat.{ℕ}
 use lib.ListN.{length, length-append}
 use Rattle.readings.specs.declared.Judged.{Judged}
-use Rattle.little_endian.specs.Numbers.{byteAt}
+use Rattle.little_endian.specs.Numbers.{byteAt, u16At}
+use Rattle.little_endian.proofs.Bytes.{u16-back}
 use Rattle.frames.specs.Heard.{newestStatus}
 use Rattle.frames.specs.Sent.{offerBytes, reportBytes}
 use Rattle.common.specs.Tests.{between}
@@ -46,6 +47,18 @@ module _ (c : Ratings) (lock : Bool) (reading : Judged) (s : Lead) where
   pub output-command : byteAt (outputOf c lock reading s) 2 ≡ s .command
   unfolding outputOf shownBytes
   output-command = refl
+
+  -- bytes 4 and 5 of H'108, which stands from byte 8 on, are the threshold while it is sent
+  pub output-threshold : u16At (outputOf c lock reading s) 12 ≡ cond (between 1 9 (s .stage .phase)) (s .threshold) 0
+  unfolding outputOf shownBytes offerBytes
+  output-threshold = go (between 1 9 (s .stage .phase)) refl
+    where
+      go :
+          (b : Bool)
+          → between 1 9 (s .stage .phase) ≡ b
+          → u16At (outputOf c lock reading s) 12 ≡ cond b (s .threshold) 0
+      go true e = rw e (u16-back (s .threshold))
+      go false e = rw e
 
 module _ (b : List ℕ) (resistance : ℕ) where
   pub input-contacts : inputOf b resistance .contacts ≡ contactsOf (byteAt b 0)

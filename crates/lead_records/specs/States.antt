@@ -1,10 +1,10 @@
--- Document 01, 'The post's two calls': the 32 bytes of a lead's state. Definitions only.
+-- Document 01, 'The post's two calls', with request 2026-01: the 32 bytes of a lead's state. Definitions only.
 use mathlib.Core.Bool.{Bool, true, _&&_}
 use mathlib.Core.List.{List, [], _∷_, _++_}
 use Prim.Native.Nat.{ℕ, _-_}
 use lib.Dec.{leb, eqb}
 use lib.ListN.{drop, replicate}
-use Rattle.little_endian.specs.Numbers.{byteAt, u16At, u32At, u16Bytes, u32Bytes}
+use Rattle.little_endian.specs.Numbers.{byteAt, u16At, u32At, u64At, u16Bytes, u32Bytes, u64Bytes}
 use Rattle.little_endian.specs.Flags.{bitAt, byteOf}
 use Rattle.frames.specs.Times.{timeOf}
 use Rattle.lead.specs.Good.{goodLead}
@@ -16,16 +16,18 @@ use Rattle.lead.specs.declared.state.Ratings.{Ratings}
 abbrev pub stateSize : ℕ
 stateSize = 32
 
--- bytes from here on are spare
+-- Bytes from here on are spare. 2026-01: "The good-state check no longer wants those bytes zero", 20 to 27.
 abbrev pub spareFrom : ℕ
-spareFrom = 20
+spareFrom = 28
 
 -- "0 phase; 1 reason, 0 for none; 2 command; 3 request; 4, 5 bytes 4, 5 of H'102; 6 silence; 7 seen (bits 0–2 for H'100–H'102);
 -- 8–9 threshold; 10–11 maximum voltage; 12–13 target; 14, 15 bytes 1, 2 of H'101; 16–19 age"
+-- 2026-01: "a count of watt-ticks in eight of the lead's spare state bytes (20–27)"
 unfoldable pub decode : List ℕ → Lead
 decode b =
     record {
       stage = record { phase = byteAt b 0; reason = byteAt b 1; age = u32At b 16 };
+      energy = u64At b 20;
       command = byteAt b 2;
       threshold = u16At b 8;
       car =
@@ -59,6 +61,7 @@ encode s =
     ++ u16Bytes (s .car .status .value .target)
     ++ (s .car .time .value .tens .0 ∷ s .car .time .value .minutes .0 ∷ [])
     ++ u32Bytes (s .stage .age)
+    ++ u64Bytes (s .energy)
     ++ spareBytes
 
 abbrev pub allZero : List ℕ → Bool

@@ -16,8 +16,11 @@ use little_endian::low_byte;
 use little_endian::u16_at;
 use little_endian::u32_at;
 use little_endian::u32_bytes;
+use little_endian::u64_at;
+use little_endian::u64_bytes;
 ghost use mathlib.Core.Path.{_≡_};
 ghost use lib.ListN.{length, drop};
+ghost use Rattle.lead.specs.Leads.{fresh, withCar};
 ghost use Rattle.lead_records.specs.States.{stateSize, spareFrom, decode, seenByte, encode, allZero, goodState};
 
 // The state's size, the places in it, and the weights in its byte of frames seen.
@@ -54,8 +57,10 @@ impl StateRecord {
 
     const AGE: usize = 16;
 
+    const ENERGY: usize = 20;
+
     // Bytes from here on are spare.
-    const SPARE: usize = 20;
+    const SPARE: usize = 28;
 
     // H'100, H'101, H'102.
     const SEEN_BATTERY: u8 = 1;
@@ -76,6 +81,7 @@ impl StateRecord {
                 reason: bytes[StateRecord::REASON],
                 age: u32_at(bytes, StateRecord::AGE),
             },
+            energy: u64_at(bytes, StateRecord::ENERGY),
             command: bytes[StateRecord::COMMAND],
             threshold: u16_at(bytes, StateRecord::THRESHOLD),
             car: StateRecord::read_car(bytes),
@@ -116,31 +122,47 @@ impl StateRecord {
         ensures { λ r. ⌜ r ≡ encode lead ⌝ }
     {
         let stage = lead.stage;
-        let car = lead.car;
-        let status = car.status.value;
-        let time = car.time.value;
         let age = u32_bytes(stage.age);
-        let mut bytes = [0u8; StateRecord::SIZE];
+        let energy = u64_bytes(lead.energy);
+        let mut bytes = StateRecord::car_bytes(lead.car);
         bytes[StateRecord::PHASE] = stage.phase;
         bytes[StateRecord::REASON] = stage.reason;
         bytes[StateRecord::COMMAND] = lead.command;
+        bytes[StateRecord::THRESHOLD] = low_byte(lead.threshold);
+        bytes[StateRecord::THRESHOLD + 1] = high_byte(lead.threshold);
+        bytes[StateRecord::AGE] = age[0];
+        bytes[StateRecord::AGE + 1] = age[1];
+        bytes[StateRecord::AGE + 2] = age[2];
+        bytes[StateRecord::AGE + 3] = age[3];
+        bytes[StateRecord::ENERGY] = energy[0];
+        bytes[StateRecord::ENERGY + 1] = energy[1];
+        bytes[StateRecord::ENERGY + 2] = energy[2];
+        bytes[StateRecord::ENERGY + 3] = energy[3];
+        bytes[StateRecord::ENERGY + 4] = energy[4];
+        bytes[StateRecord::ENERGY + 5] = energy[5];
+        bytes[StateRecord::ENERGY + 6] = energy[6];
+        bytes[StateRecord::ENERGY + 7] = energy[7];
+        bytes
+    }
+
+    // Those of a lead that is fresh but for what it knows of the car.
+    fn car_bytes(car: Car) -> [u8; StateRecord::SIZE]
+        ensures { λ r. ⌜ r ≡ encode (withCar car fresh) ⌝ }
+    {
+        let status = car.status.value;
+        let time = car.time.value;
+        let mut bytes = [0u8; StateRecord::SIZE];
         bytes[StateRecord::REQUEST] = status.request;
         bytes[StateRecord::FAULTS] = status.faults;
         bytes[StateRecord::FLAGS] = status.flags;
         bytes[StateRecord::SILENCE] = car.silence;
         bytes[StateRecord::SEEN] = StateRecord::seen(car);
-        bytes[StateRecord::THRESHOLD] = low_byte(lead.threshold);
-        bytes[StateRecord::THRESHOLD + 1] = high_byte(lead.threshold);
         bytes[StateRecord::MAXIMUM] = low_byte(car.battery.maximum);
         bytes[StateRecord::MAXIMUM + 1] = high_byte(car.battery.maximum);
         bytes[StateRecord::TARGET] = low_byte(status.target);
         bytes[StateRecord::TARGET + 1] = high_byte(status.target);
         bytes[StateRecord::TENS] = time.tens.0;
         bytes[StateRecord::MINUTES] = time.minutes.0;
-        bytes[StateRecord::AGE] = age[0];
-        bytes[StateRecord::AGE + 1] = age[1];
-        bytes[StateRecord::AGE + 2] = age[2];
-        bytes[StateRecord::AGE + 3] = age[3];
         bytes
     }
 
@@ -164,12 +186,10 @@ impl StateRecord {
     }
 }
 
-// The spare bytes, four at a time as a number, for fewer tests.
+// The four spare bytes, as one number.
 fn is_spare_zero(bytes: &[u8]) -> bool
     requires { ⌜ length (now bytes) ≡ stateSize ⌝ }
     ensures { λ r. ⌜ r ≡ allZero (drop spareFrom (now (bytes .entry))) ⌝ }
 {
-    (u32_at(bytes, StateRecord::SPARE) == 0)
-        & (u32_at(bytes, StateRecord::SPARE + 4) == 0)
-        & (u32_at(bytes, StateRecord::SPARE + 8) == 0)
+    u32_at(bytes, StateRecord::SPARE) == 0
 }

@@ -8,7 +8,7 @@ use lib.Dec.{T}
 use lib.ListN.{length, getD, take, drop, length-append, length-drop, drop-of-length-le}
 use lib.Seq.{length-take-le, getD-drop}
 use borrow.Author.Tests.{eq-eqb}
-use Rattle.little_endian.specs.Numbers.{byteAt, u16At, lowByte, highByte}
+use Rattle.little_endian.specs.Numbers.{byteAt, u16At, u64At, lowByte, highByte}
 use Rattle.common.proofs.Spelled.{spelled-is}
 use Rattle.little_endian.proofs.Bytes.{u16-back, u32-back, low-byte-back, high-byte-back, low-half-back, high-half-back}
 use Rattle.common.proofs.Bools.{is-true}
@@ -61,6 +61,11 @@ module _ (h : Head) (leads : ℕ → Lead) where
   pub lead-back : (k : ℕ) → k < h .leads → leadsOf bytes k ≡ leads k
   unfolding leadsOf
   lead-back k below = ap decode (part-back k below) ∙ decode-encode (leads k)
+
+  -- 2026-01: bytes 20 to 27 of its record are the lead's count
+  pub energy-back : (k : ℕ) → k < h .leads → u64At (statePart bytes k) 20 ≡ leads k .energy
+  unfolding leadsOf decode
+  energy-back k below = ap (λ (l : Lead). l .energy) (lead-back k below)
 
   pub sound-good : Sound h leads → T (goodPost bytes)
   unfolding goodPost

@@ -1,5 +1,5 @@
 -- A tick of a sound post's bytes is the rules' tick of that post, which is sound again. Assumes nothing.
-use mathlib.Core.Bool.{false}
+use mathlib.Core.Bool.{false, cond}
 use mathlib.Core.List.{List, [], _++_}
 use mathlib.Core.Path.{_≡_, refl, ap, _∙_}
 use Prim.Native.Nat.{ℕ, _<_}
@@ -9,7 +9,8 @@ use Rattle.common.specs.Parts.{joined}
 use Rattle.common.specs.Refusals.{refusalOf, doneUnless}
 use Rattle.common.proofs.Bools.{is-true}
 use Rattle.common.proofs.Joined.{joined-same, part-joined}
-use Rattle.little_endian.specs.Numbers.{byteAt}
+use Rattle.common.specs.Tests.{between}
+use Rattle.little_endian.specs.Numbers.{byteAt, u16At}
 use Rattle.sharing.proofs.Laws.{level-same}
 use Rattle.lead.specs.Power.{wantedWatts, commanded}
 use Rattle.lead.specs.Moves.{decide}
@@ -17,7 +18,7 @@ use Rattle.lead.specs.declared.state.Lead.{Lead}
 use Rattle.lead.proofs.Goodness.{good-stays}
 use Rattle.lead_records.specs.States.{encode}
 use Rattle.lead_records.specs.Outputs.{outputSize}
-use Rattle.lead_records.proofs.Shown.{output-length, output-command}
+use Rattle.lead_records.proofs.Shown.{output-length, output-command, output-threshold}
 use Rattle.post.specs.Heads.{headSize, headOf, headBytes, outputPart}
 use Rattle.post.specs.Rules.{TickInput, tickInput, inputAt, decidedAt, wantAfter, levelAfter, leadAfter, shownAt, shownAfter, postBytes}
 use Rattle.post.specs.Refusals.{goodPost, inputRows, tickRows}
@@ -101,16 +102,22 @@ module _ (h : Head) (input : List ℕ) (leads : ℕ → Lead) where
     unfolding tickOf
     tick-is output = rw (refusal-is (length output), state-is, shown-is)
 
--- byte 2 of what lead k shows is its command
-pub shown-command :
-    (h : Head) (i : TickInput) (leads : ℕ → Lead) (k : ℕ)
-    → k < h .leads
-    → byteAt (outputPart (shownAfter h i leads) k) 2 ≡ leadAfter h i leads k .command
-unfolding shownAfter
-shown-command h i leads k below =
-    ap (λ (b : List ℕ). byteAt b 2)
-    (part-joined outputSize (λ j. shownAt h i (leadAfter h i leads j) j) (λ j. output-length (h .ratings) _ _ _) [] 0 (h .leads) k refl below)
-    ∙ output-command (h .ratings) _ _ _
+-- what a tick's output says of lead k
+module _ (h : Head) (i : TickInput) (leads : ℕ → Lead) (k : ℕ) (below : k < h .leads) where
+  shown-part : outputPart (shownAfter h i leads) k ≡ shownAt h i (leadAfter h i leads k) k
+  unfolding shownAfter
+  shown-part =
+      part-joined outputSize (λ j. shownAt h i (leadAfter h i leads j) j) (λ j. output-length (h .ratings) _ _ _) [] 0 (h .leads) k refl below
+
+  -- byte 2 is its command
+  pub shown-command : byteAt (outputPart (shownAfter h i leads) k) 2 ≡ leadAfter h i leads k .command
+  shown-command = ap (λ (b : List ℕ). byteAt b 2) shown-part ∙ output-command (h .ratings) _ _ _
+
+  -- bytes 12 and 13 are its threshold while frames are sent
+  pub shown-threshold :
+      u16At (outputPart (shownAfter h i leads) k) 12
+      ≡ cond (between 1 9 (leadAfter h i leads k .stage .phase)) (leadAfter h i leads k .threshold) 0
+  shown-threshold = ap (λ (b : List ℕ). u16At b 12) shown-part ∙ output-threshold (h .ratings) _ _ _
 
 -- bytes that are no good state
 pub tick-unusable :

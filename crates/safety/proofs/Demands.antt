@@ -1,4 +1,4 @@
--- Demands 2 and 3 of document 00, over every list of calls. Assumes nothing.
+-- Demands 2 and 3 of document 00 and the claim of request 2026-01, over every list of calls. Assumes nothing.
 use mathlib.Core.Bool.{Bool, true, false, cond}
 use mathlib.Core.List.{List, [], _∷_, _++_}
 use mathlib.Core.Path.{_≡_, refl, sym, ap, _∙_}
@@ -19,9 +19,11 @@ use Rattle.post.proofs.Posts.{Sound, fresh-sound, read-sound, read-again}
 use Rattle.safety.specs.Lists.{Call, setup, tick, outcome, outcomes, ticksOf, stretchesOf}
 use Rattle.safety.specs.Trace.{post, unusable, keptOf, trace}
 use Rattle.safety.specs.Demand3.{Demand3, EachStretch}
+use Rattle.safety.specs.Energy.{Energy}
 use Rattle.safety.proofs.Agreement.{all-follow}
 use Rattle.safety.proofs.Numbers.{noOutcome, trace-never-6}
-use Rattle.safety.proofs.Outputs.{shown}
+use Rattle.safety.proofs.Outputs.{left, shown}
+use Rattle.safety.proofs.Energy.{energy-of}
 use Rattle.safety.proofs.OverRules.{demand-3-of}
 
 -- Demand 2: "Over every list of calls, each lead's phase, reason, commands and frames, and all state bytes, equal those of document 01's
@@ -71,6 +73,10 @@ module _ (h : Head) (buffer : List ℕ) (accepted : setupOf h buffer .number ≡
       rw state-is
       (demand-3-of h (ticksOf (postBytes h (λ k. fresh)) calls) (head-taken h taken .amperes-most)
       (shown h calls sound))
+
+  -- Request 2026-01: each lead's count of watt-ticks, after every tick
+  pub energy : (calls : List Call) → Energy h (ticksOf (setupOf h buffer .state) calls)
+  energy calls = rw state-is (energy-of h (ticksOf (postBytes h (λ k. fresh)) calls) sound (left h calls sound))
 
 -- what an accepted setup leaves of the post's state
 begins : (state : List ℕ) (h : Head) (buffer : List ℕ) → setupOf h buffer .number ≡ 0 → outcome state (setup h buffer) .state ≡ setupOf h buffer .state

@@ -1,6 +1,6 @@
--- Demand 3 over the trace of document 01's rules: what one tick does to one lead (Steps), then a file for each claim (Closed to Zeros), and
--- the demand from them all (OverRules). That the bytes follow the rules, call by call (Agreement, Outputs, Numbers). The demands over every
--- list of calls (Demands). What the checker computes: the starred cases and a session.
+-- Demand 3 over the trace of the rules: what one tick does to one lead (Steps), then a file for each claim (Closed to Zeros), and the demand
+-- from them all (OverRules). That the bytes follow the rules, call by call (Agreement, Outputs, Numbers). The claim of request 2026-01
+-- (Energy). The demands and that claim over every list of calls (Demands). What the checker computes: the starred cases and two sessions.
 pub mod Steps
 pub mod Closed
 pub mod Heard
@@ -10,6 +10,7 @@ pub mod Zeros
 pub mod OverRules
 pub mod Agreement
 pub mod Outputs
+pub mod Energy
 pub mod Numbers
 pub mod Demands
 pub mod Starred

@@ -1,9 +1,9 @@
--- The session, computed: phase, reason and command of both leads. Assumes nothing.
+-- The sessions, computed: phase, reason and command of two leads; phase, command and count of one. Assumes nothing.
 use mathlib.Core.List.{[], _∷_}
 use mathlib.Core.Path.{_≡_, refl}
 use Rattle.post.specs.All.{postRules}
 use Rattle.safety.specs.Lists.{outcome, ticksOf, stretchesOf}
-use Rattle.safety.specs.Session.{session, played}
+use Rattle.safety.specs.Session.{session, twice, played, playedTwice}
 
 pub session-shows :
     played
@@ -36,3 +36,40 @@ pub session-shows :
     ∷ [])
 unfolding session outcome ticksOf stretchesOf postRules
 session-shows = refl
+
+pub counts-show :
+    playedTwice
+    ≡ ((
+    -- the lead starts, and charges at 50 V
+    (1 ∷ 0 ∷ 0 ∷ [])
+    ∷ (2 ∷ 0 ∷ 0 ∷ [])
+    ∷ (3 ∷ 0 ∷ 0 ∷ [])
+    ∷ (4 ∷ 0 ∷ 0 ∷ [])
+    ∷ (5 ∷ 0 ∷ 0 ∷ [])
+    ∷ (6 ∷ 2 ∷ 100 ∷ [])
+    ∷ (6 ∷ 4 ∷ 300 ∷ [])
+    ∷ (6 ∷ 6 ∷ 600 ∷ [])
+    ∷ (6 ∷ 8 ∷ 1000 ∷ [])
+    ∷ (6 ∷ 10 ∷ 1500 ∷ [])
+    ∷ (6 ∷ 12 ∷ 2100 ∷ [])
+    -- it ramps down, and still counts
+    ∷ (7 ∷ 2 ∷ 2200 ∷ [])
+    ∷ (7 ∷ 0 ∷ 2200 ∷ [])
+    -- it ends, is unplugged and stays idle, and keeps its count
+    ∷ (8 ∷ 0 ∷ 2200 ∷ [])
+    ∷ (9 ∷ 0 ∷ 2200 ∷ [])
+    ∷ (10 ∷ 0 ∷ 2200 ∷ [])
+    ∷ (0 ∷ 0 ∷ 2200 ∷ [])
+    ∷ (0 ∷ 0 ∷ 2200 ∷ [])
+    -- after the next start it counts from 0
+    ∷ (1 ∷ 0 ∷ 0 ∷ [])
+    ∷ (2 ∷ 0 ∷ 0 ∷ [])
+    ∷ (3 ∷ 0 ∷ 0 ∷ [])
+    ∷ (4 ∷ 0 ∷ 0 ∷ [])
+    ∷ (5 ∷ 0 ∷ 0 ∷ [])
+    ∷ (6 ∷ 2 ∷ 100 ∷ [])
+    ∷ (6 ∷ 4 ∷ 300 ∷ [])
+    ∷ [])
+    ∷ [])
+unfolding twice outcome ticksOf stretchesOf postRules
+counts-show = refl

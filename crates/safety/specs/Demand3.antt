@@ -25,7 +25,7 @@ use Rattle.safety.specs.Lists.{Tick, Stretch}
 
 -- past the end of a list
 abbrev pub noTick : Tick
-noTick = record { input = tickInput []; output = [] }
+noTick = record { input = tickInput []; output = []; state = [] }
 
 -- "It permits if faults and system fault are clear and it says enabled, in park, contactor closed and no stop request."
 abbrev pub permits : VehicleStatus → Bool

@@ -1,5 +1,6 @@
 pub mod Lists
 pub mod Trace
 pub mod Demand3
+pub mod Energy
 pub mod Starred
 pub mod Session

@@ -32,10 +32,11 @@ unfoldable pub outcomes : List ℕ → List Call → List Outcome
 outcomes state [] = []
 outcomes state (call ∷ calls) = outcome state call ∷ outcomes (outcome state call .state) calls
 
--- a tick that returned 0: what it was given, and its output after it
+-- a tick that returned 0: what it was given, and the output and the state as it left them
 pub record Tick : Type 0 where
   pub input : TickInput
   pub output : List ℕ
+  pub state : List ℕ
 
 -- The ticks of a list that demand 3 counts: "refused ones may stand anywhere in it and aren't counted"; "an accepted setup begins a
 -- new list", so this one ends there.
@@ -44,7 +45,8 @@ ticksOf state [] = []
 ticksOf state (setup h buffer ∷ calls) = cond (eqb (setupOf h buffer .number) 0) [] (ticksOf state calls)
 ticksOf state (tick input output ∷ calls) =
     let done : Ticked = tickOf state input output in
-    cond (eqb (done .number) 0) (record { input = tickInput input; output = done .output } ∷ ticksOf (done .state) calls)
+    cond (eqb (done .number) 0)
+    (record { input = tickInput input; output = done .output; state = done .state } ∷ ticksOf (done .state) calls)
     (ticksOf (done .state) calls)
 
 -- A stretch of a list: what an accepted setup fixed, and the ticks from there up to the next accepted one.

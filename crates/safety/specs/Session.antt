@@ -1,10 +1,10 @@
--- A list of calls in which what demand 3 speaks of happens: its claims are not empty. Definitions only.
+-- Lists of calls in which what demand 3 and request 2026-01 speak of happens: their claims are not empty. Definitions only.
 use mathlib.Core.List.{List, [], _∷_, _++_}
 use Prim.Native.Nat.{ℕ, _-_}
 use lib.ListN.{length, replicate, take}
-use Rattle.little_endian.specs.Numbers.{u32Bytes}
+use Rattle.little_endian.specs.Numbers.{byteAt, u64At, u32Bytes}
 use Rattle.lead_records.specs.Inputs.{inputSize}
-use Rattle.post.specs.Heads.{stateLength, outputLength, outputPart, headFrom}
+use Rattle.post.specs.Heads.{stateLength, outputLength, statePart, outputPart, headFrom}
 use Rattle.post.specs.declared.head.Head.{Head}
 use Rattle.safety.specs.Lists.{Call, setup, tick, Tick, Stretch, stretchesOf}
 
@@ -20,9 +20,9 @@ battery = (0x00 ∷ 1 ∷ 8 ∷ []) ++ (0 ∷ 0 ∷ 0 ∷ 0 ∷ 50 ∷ 0 ∷ 0 �
 abbrev time : List ℕ
 time = (0x01 ∷ 1 ∷ 8 ∷ []) ++ (0 ∷ 6 ∷ 0 ∷ 0 ∷ 0 ∷ 0 ∷ 0 ∷ 0 ∷ [])
 
--- H'102: 50 V and 10 A asked for
+-- H'102: 50 V and 12 A asked for
 abbrev status : ℕ → List ℕ
-status flags = (0x02 ∷ 1 ∷ 8 ∷ []) ++ (0 ∷ 50 ∷ 0 ∷ 10 ∷ 0 ∷ flags ∷ 0 ∷ 0 ∷ [])
+status flags = (0x02 ∷ 1 ∷ 8 ∷ []) ++ (0 ∷ 50 ∷ 0 ∷ 12 ∷ 0 ∷ flags ∷ 0 ∷ 0 ∷ [])
 
 -- enabled, with the contactor open or closed
 abbrev opened : List ℕ
@@ -71,21 +71,25 @@ stop = leadInput 0x17 3 0 []
 abbrev cut : List ℕ
 cut = leadInput 5 3 1 closed
 
--- a post with some leads, 500 V and 10 A
+-- a post with some leads, 500 V and 12 A
 abbrev head : ℕ → Head
-head leads = headFrom (record { leads = leads; volts = 500; amperes = 10; resistance = 0 })
+head leads = headFrom (record { leads = leads; volts = 500; amperes = 12; resistance = 0 })
 
 -- a tick of two leads
 abbrev both : ℕ → List ℕ → List ℕ → Call
 both limit first second = tick (u32Bytes limit ++ first ++ second) (replicate (outputLength 2) 0)
 
+-- a tick of one lead, with power for all that it wants
+abbrev alone : List ℕ → Call
+alone input = tick (u32Bytes 1000 ++ input) (replicate (outputLength 1) 0)
+
 -- a setup that is accepted
-abbrev begin : Call
-begin = setup (head 2) (replicate (stateLength 2) 0)
+abbrev begin : ℕ → Call
+begin leads = setup (head leads) (replicate (stateLength leads) 0)
 
 unfoldable pub session : List Call
 session =
-    begin
+    begin 2
     ∷ both 1000 start unplugged
     ∷ both 1000 handshake start
     ∷ both 1000 hold handshake
@@ -108,22 +112,61 @@ session =
     ∷ setup (head 0) []
     ∷ both 350 start cut
     -- a new list
-    ∷ begin
+    ∷ begin 2
     ∷ both 1000 unplugged start
     ∷ []
+
+-- 2026-01: a lead charges, is stopped and unplugged, and charges again
+unfoldable pub twice : List Call
+twice =
+    begin 1
+    ∷ alone start
+    ∷ alone handshake
+    ∷ alone hold
+    ∷ alone test
+    ∷ alone hold
+    ∷ alone charge
+    ∷ alone charge
+    ∷ alone charge
+    ∷ alone charge
+    ∷ alone charge
+    ∷ alone charge
+    ∷ alone stop
+    ∷ alone hold
+    ∷ alone hold
+    ∷ alone release
+    ∷ alone hold
+    ∷ alone unplugged
+    ∷ alone unplugged
+    ∷ alone start
+    ∷ alone handshake
+    ∷ alone hold
+    ∷ alone test
+    ∷ alone hold
+    ∷ alone charge
+    ∷ alone charge
+    ∷ []
+
+-- what is looked at in every tick of every stretch
+abbrev inTicks : (Tick → List ℕ) → List Tick → List (List ℕ)
+inTicks look [] = []
+inTicks look (t ∷ ticks) = look t ∷ inTicks look ticks
+
+abbrev inStretches : (Tick → List ℕ) → List Stretch → List (List (List ℕ))
+inStretches look [] = []
+inStretches look (s ∷ rest) = inTicks look (s .ticks) ∷ inStretches look rest
 
 -- phase, reason and command of both leads after a tick
 abbrev shown : Tick → List ℕ
 shown t = take 3 (outputPart (t .output) 0) ++ take 3 (outputPart (t .output) 1)
 
-abbrev allShown : List Tick → List (List ℕ)
-allShown [] = []
-allShown (t ∷ ticks) = shown t ∷ allShown ticks
+-- phase, command and count of the only lead after a tick
+abbrev counted : Tick → List ℕ
+counted t = byteAt (outputPart (t .output) 0) 0 ∷ byteAt (outputPart (t .output) 0) 2 ∷ u64At (statePart (t .state) 0) 20 ∷ []
 
-abbrev pub eachShown : List Stretch → List (List (List ℕ))
-eachShown [] = []
-eachShown (s ∷ rest) = allShown (s .ticks) ∷ eachShown rest
-
--- the session, stretch by stretch, from no state at all
+-- both lists, stretch by stretch, from no state at all
 abbrev pub played : List (List (List ℕ))
-played = eachShown (stretchesOf [] session)
+played = inStretches shown (stretchesOf [] session)
+
+abbrev pub playedTwice : List (List (List ℕ))
+playedTwice = inStretches counted (stretchesOf [] twice)

@@ -51,6 +51,7 @@ abbrev leadAt : ℕ → ℕ → ℕ → Lead
 leadAt phase command request =
     record {
       stage = record { phase = phase; reason = noReason; age = 0 };
+      energy = 0;
       command = command;
       threshold = 400;
       car =

@@ -52,7 +52,7 @@ fn moves() {
 
 #[test]
 fn the_start_zeroes_everything_remembered() {
-    let mut case = Case::new(0).age(u32::MAX).close(START_BUTTON).hears(ENABLED);
+    let mut case = Case::new(0).age(u32::MAX).energy(u64::MAX).close(START_BUTTON).hears(ENABLED);
     case.state[REASON..AGE].fill(20);
     let case = case.byte(COMMAND, 0).byte(SEEN, 7).number(THRESHOLD, 400);
     assert_eq!(case.tick().state, Case::new(1).state);

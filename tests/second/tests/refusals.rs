@@ -118,6 +118,25 @@ fn a_bad_lead() {
 }
 
 #[test]
+fn any_energy_and_no_spare_byte() {
+    for phase in 0..=10 {
+        let with = |bytes: &[(usize, u8)]| {
+            let threshold = (THRESHOLD, if phase == 1 { 0 } else { 100 });
+            good(&[&[(PHASE, phase), threshold], bytes].concat())
+        };
+        for (at, byte) in (20..32).flat_map(|at| (0..=255).map(move |byte| (at, byte))) {
+            assert_eq!(with(&[(at, byte)]), at < 28 || byte == 0, "{byte} at {at} in phase {phase}");
+        }
+        // All eight at once; a spare byte is found beside them too.
+        let all = [20, 21, 22, 23, 24, 25, 26, 27].map(|at| (at, 0xFF));
+        assert!(with(&all));
+        for at in 28..32 {
+            assert!(!with(&[&all[..], &[(at, 1)]].concat()));
+        }
+    }
+}
+
+#[test]
 fn a_bad_input() {
     let state = fresh(2, 400, 125);
     for length in (0..input_bytes(2)).chain([input_bytes(2) + 1, input_bytes(3)]) {
@@ -150,12 +169,7 @@ fn the_first_fitting_number() {
 
 #[test]
 fn a_call_without_a_refusal_is_done_whatever_else_it_holds() {
-    // A fixed small generator.
-    let mut seed = 0x2545_F491_4F6C_DD1Du64;
-    let mut next = move || {
-        seed = seed.wrapping_mul(6_364_136_223_846_793_005).wrapping_add(1);
-        (seed >> 56) as u8
-    };
+    let mut next = generator();
     for _ in 0..20_000 {
         let mut case = Case::new(next() % 11).allowance(u32::from_le_bytes([0; 4].map(|_| next())) >> 12);
         case.state[REQUEST..SEEN].fill_with(&mut next);

@@ -15,19 +15,15 @@ use Rattle.lead_records.proofs.states.is_spare_zero.Tie as tie
 
 returns : tie.Need-returns
 returns c =
-    let b : List ℕ = now (c .before .before .before .before .args .bytes) in
+    let b : List ℕ = now (c .before .before .args .bytes) in
     let none : length b ≤ stateSize = omega arith in
     rw (
-      c .u32-at3 .ensures,
-      c .before .u32-at2 .ensures,
-      c .before .before .u32-at .ensures,
+      c .u32-at .ensures,
       ← spelled-is 0 b (stateSize - spareFrom) spareFrom (omega arith),
       drop-of-length-le b none,
-      four-zero (byteAt b 20) (byteAt b 21) (byteAt b 22) (byteAt b 23),
-      four-zero (byteAt b 24) (byteAt b 25) (byteAt b 26) (byteAt b 27),
       four-zero (byteAt b 28) (byteAt b 29) (byteAt b 30) (byteAt b 31),
     )
     (simp (and-assoc, and-true))
 
 pub is-spare-zero-spec : {M : Type 1} → statement M
-is-spare-zero-spec = tie.close (tie.spec (search needs) (search needs) (search needs) (search needs) (search needs) returns)
+is-spare-zero-spec = tie.close (tie.spec (search needs) returns)

@@ -6,8 +6,14 @@ use Rattle.lead.proofs.state.Lead.command.Tie as tie
 
 returns : tie.Need-returns
 unfolding wantedWatts commanded
-returns c = rw (c .carried .ensures, c .before .wanted .ensures)
+returns c =
+    rw (
+      c .energy-after .ensures,
+      c .before .watts .ensures,
+      c .before .before .carried .ensures,
+      c .before .before .before .wanted .ensures,
+    )
 
 pub command-spec : {M : Type 1} → statement M
 command-spec = tie.close
-    (tie.spec (search needs) (search needs) returns)
+    (tie.spec (search needs) (search needs) (search needs) (search needs) returns)

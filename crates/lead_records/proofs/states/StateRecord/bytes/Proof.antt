@@ -1,22 +1,19 @@
 -- `lead_records::states::StateRecord::bytes` meets its contract. By the numbers that are written. Assumes nothing.
-use Rattle.lead_records.specs.States.{encode}
 use borrow.Author.Needs.{needs}
+use Rattle.lead_records.specs.States.{encode}
 use Rattle.lead_records.proofs.states.StateRecord.bytes.Statement.{statement}
 use Rattle.lead_records.proofs.states.StateRecord.bytes.Tie as tie
 
 returns : tie.Need-returns
 unfolding encode
 returns c =
-    let k = c .before .before .before .before in
+    let k = c .before .before in
     rw (
-      c .high-byte3 .ensures,
-      c .before .low-byte3 .ensures,
-      c .before .before .high-byte2 .ensures,
-      c .before .before .before .low-byte2 .ensures,
-      k .high-byte .ensures,
-      k .before .low-byte .ensures,
-      k .before .before .seen .ensures,
-      k .before .before .before .u32-bytes .ensures,
+      c .high-byte .ensures,
+      c .before .low-byte .ensures,
+      k .car-bytes .ensures,
+      k .before .u64-bytes .ensures,
+      k .before .before .u32-bytes .ensures,
     )
 
 pub bytes-spec : {M : Type 1} → statement M
@@ -26,4 +23,5 @@ bytes-spec =
     (search needs) (search needs) (search needs) (search needs) (search needs) (search needs) (search needs) (search needs) (search needs)
     (search needs) (search needs) (search needs) (search needs) (search needs) (search needs) (search needs) (search needs) (search needs)
     (search needs) (search needs) (search needs) (search needs) (search needs) (search needs) (search needs) (search needs) (search needs)
-    (search needs) (search needs) (search needs) returns)
+    (search needs) (search needs) (search needs) (search needs) (search needs) (search needs) (search needs) (search needs) (search needs)
+    (search needs) returns)

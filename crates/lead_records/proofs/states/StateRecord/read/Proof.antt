@@ -6,9 +6,11 @@ use Rattle.lead_records.proofs.states.StateRecord.read.Tie as tie
 
 returns : tie.Need-returns
 unfolding decode
-returns c = rw (c .read-car .ensures, c .before .u16-at .ensures, c .before .before .before .u32-at .ensures)
+returns c =
+    let k = c .before .before .before in
+    rw (c .read-car .ensures, c .before .u16-at .ensures, k .u64-at .ensures, k .before .u32-at .ensures)
 
 pub read-spec : {M : Type 1} → statement M
 read-spec =
     tie.close
-    (tie.spec (search needs) (search needs) (search needs) (search needs) (search needs) (search needs) returns)
+    (tie.spec (search needs) (search needs) (search needs) (search needs) (search needs) (search needs) (search needs) returns)
