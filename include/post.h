@@ -195,7 +195,8 @@ static inline float post_get_float(const uint8_t *place) {
  * The edition of the state: where its bytes stand and what they mean. Store it beside a state that
  * is to outlive the program. Bytes stored under another number are not to be handed in, as they
  * might pass for good and mean something else: begin anew with setup, when all leads are unplugged.
- * Do so after a break of more than a tick too, as a state goes on as if no time had passed.
+ * Do so after a break of more than a tick too, as a state goes on as if no time had passed; energies
+ * that are wanted are read from the stored bytes before.
  */
 #define POST_STATE_VERSION 2
 
@@ -228,14 +229,14 @@ static inline float post_get_float(const uint8_t *place) {
 
 /*
  * The energy is what the lead was commanded since its latest start: amperes times the threshold's
- * volts, summed over the ticks done. The start (phase 0 to 1) sets it to 0, and nothing else does
- * but setup: it is kept while the lead is ended and idle. A host that wants it of each charge reads
- * it before the next start, best when the lead comes to POST_PHASE_ENDED, as every started one does
- * before it is idle again.
- * So it is no meter's kilowatt-hours, no bound on what flowed (the meter's amperes are held to the
- * rating, see POST_REASON_OVERCURRENT, not to the command) and nothing to bill by. It never wraps:
- * it stops at its largest value, 2^64 - 1, which would take 584,000 years of ticks at 200 A and
- * 500 V.
+ * volts, summed over the ticks done. So it is no meter's kilowatt-hours, no bound on what flowed
+ * (the meter's amperes are held to the rating plus 5 A, see POST_REASON_OVERCURRENT, not to the
+ * command) and nothing to bill by. Each tick counts as a tenth of a second, however long it took.
+ * The start (phase 0 to 1) sets it to 0, and nothing else does but setup: it is kept while the lead
+ * is ended and idle. A host that wants it of each charge reads it before the next start, best when
+ * the lead comes to POST_PHASE_ENDED, as every started one does before it is idle again.
+ * It never wraps: it stops at its largest value, 2^64 - 1, which would take some 584,000 years of
+ * ticks at 200 A and 500 V.
  */
 #define POST_WATT_TICKS_PER_KWH 36000000 /* 1000 W for 3600 s of ten ticks */
 

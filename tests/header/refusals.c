@@ -104,7 +104,7 @@ static void try_bytes(uint32_t answer) {
 }
 
 /* A 1 in a byte of an idle lead: no reason, no command without charging, no threshold, spare. The
- * energy may be any number, a spare byte none: there every other value is tried too. */
+ * energy may be any number, a spare byte only 0: there every other value is tried too. */
 static void try_state_bytes(void) {
     memset(input, 0, sizeof input);
     for (size_t i = 0; i < POST_LEAD_LENGTH; i++) {

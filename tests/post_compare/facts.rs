@@ -113,7 +113,7 @@ pub fn of_ticks() -> Table<Tick> {
         table.row(HANDED_IN, flaw.clone(), move |tick| tick.flaws == [flaw.as_str()]);
     }
     for at in place::SPARE..STATE_BYTES {
-        table.row(HANDED_IN, format!("6 alone: spare byte {at} of a lead alone"), move |tick|
+        table.row(HANDED_IN, format!("6 alone: of the spare bytes only {at}"), move |tick|
             tick.has_bad_lead(|lead| alone(&lead.record[place::SPARE..], at - place::SPARE)));
     }
     for bit in SEEN_ALL.count_ones()..8 {
@@ -226,14 +226,6 @@ pub fn of_turns() -> Table<Turn> {
         if phase != 6 {
             table.row(REACHED, format!("move from {phase}"), move |turn| turn.moved_from(phase));
         }
-        // A start clears it, and no move ends 6.
-        if !matches!(phase, 0 | 6) {
-            table.row(with_energy(phase), format!("energy kept by the move from {phase}"), move |turn|
-                turn.moved_from(phase) && turn.keeps_energy());
-        }
-        table.row(with_energy(phase), format!("energy kept in {phase}"), move |turn| turn.stayed_in(phase) && turn.keeps_energy());
-        table.row(HANDED_IN, format!("good: energy of eight bytes in {phase}"), move |turn|
-            turn.before.phase == phase && !turn.before.energy.to_le_bytes().contains(&0));
         table.row(HANDED_IN, format!("age 4,294,967,295 in {phase}"), move |turn| turn.at_age(phase, u32::MAX));
     }
     for question in &QUESTIONS {
@@ -269,23 +261,7 @@ pub fn of_turns() -> Table<Turn> {
     for bit in 0..FAULTS.count_ones() {
         table.row(REACHED, format!("stop 20 for fault {bit} alone"), move |turn| turn.stopped_for_faults(1 << bit, 0));
     }
-    for phase in [6, 7] {
-        for (kind, holds) in ROOMS {
-            table.row(HANDED_IN, format!("energy {kind} in {phase}"), move |turn|
-                turn.after.phase == phase && turn.watts() > 0 && holds(turn.room(), turn.watts()));
-        }
-    }
-    for at in place::ENERGY..place::SPARE {
-        table.row(HANDED_IN, format!("good: byte {at} of the energy alone"), move |turn|
-            alone(&turn.before.energy.to_le_bytes(), at - place::ENERGY));
-    }
-    for at in place::ENERGY + 1..place::SPARE {
-        let below = (1 << (8 * (at - place::ENERGY))) - 1;
-        table.row(HANDED_IN, format!("energy just doesn't carry into byte {at}"), move |turn|
-            turn.grows() && turn.after.energy & below == below && turn.after.energy != u64::MAX);
-        table.row(HANDED_IN, format!("energy just carries into byte {at}"), move |turn|
-            turn.grows() && turn.after.energy & below == 0 && turn.before.energy & below != 0);
-    }
+    add_energies(&mut table);
     // A session leaves phase 1 after all three frames.
     for seen in 0..SEEN_ALL {
         table.row(HANDED_IN, format!("seen {seen} in 2-6"), move |turn| turn.before.seen == seen && turn.began_in(2..=6));
@@ -326,6 +302,38 @@ pub fn of_turns() -> Table<Turn> {
         }
     }
     table
+}
+
+/// Energies kept and at their edges, phase by phase and byte by byte.
+#[rustfmt::skip]
+fn add_energies(table: &mut Table<Turn>) {
+    for phase in 0..=LAST_PHASE {
+        // A start clears it, and no move ends 6.
+        if !matches!(phase, 0 | 6) {
+            table.row(with_energy(phase), format!("energy kept by the move from {phase}"), move |turn|
+                turn.moved_from(phase) && turn.keeps_energy());
+        }
+        table.row(with_energy(phase), format!("energy kept in {phase}"), move |turn| turn.stayed_in(phase) && turn.keeps_energy());
+        table.row(HANDED_IN, format!("good: energy of eight bytes in {phase}"), move |turn|
+            turn.before.phase == phase && !turn.before.energy.to_le_bytes().contains(&0));
+    }
+    for phase in [6, 7] {
+        for (kind, holds) in ROOMS {
+            table.row(HANDED_IN, format!("energy {kind} in {phase}"), move |turn|
+                turn.after.phase == phase && turn.watts() > 0 && holds(turn.room(), turn.watts()));
+        }
+    }
+    for at in place::ENERGY..place::SPARE {
+        table.row(HANDED_IN, format!("good: byte {at} of the energy alone"), move |turn|
+            alone(&turn.before.energy.to_le_bytes(), at - place::ENERGY));
+    }
+    for at in place::ENERGY + 1..place::SPARE {
+        let below = (1 << (8 * (at - place::ENERGY))) - 1;
+        table.row(HANDED_IN, format!("energy just doesn't carry into byte {at}"), move |turn|
+            turn.grows() && turn.after.energy & below == below && turn.after.energy != u64::MAX);
+        table.row(HANDED_IN, format!("energy just carries into byte {at}"), move |turn|
+            turn.grows() && turn.after.energy & below == 0 && turn.before.energy & below != 0);
+    }
 }
 
 /// A session's lead has no energy between its start and 6.

@@ -112,7 +112,7 @@ fn draw_threshold(phase: u8, rating: &Rating, dice: &mut Dice) -> u16 {
     dice.pick(&[LEAST_VOLTS, rating.volts, any])
 }
 
-/// Nothing is asked of it: none, one byte alone, any.
+/// Nothing is asked of it: none, one byte alone, a number of fewer bits, any.
 fn draw_energy(dice: &mut Dice) -> u64 {
     let any = u64::from_le_bytes(dice.bytes());
     let byte = u64::from(dice.byte()) << whole_bytes(dice);

@@ -28,7 +28,7 @@ pub mod place {
     pub const TIME_BYTE_1: usize = 14;
     pub const TIME_BYTE_2: usize = 15;
     pub const AGE: usize = 16;
-    /// 2026-01: "A count of watt-ticks in eight of the lead's spare state bytes
+    /// 2026-01: "a count of watt-ticks in eight of the lead's spare state bytes
     /// (20–27)."
     pub const ENERGY: usize = 20;
     pub const SPARE: usize = 28;

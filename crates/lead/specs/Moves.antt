@@ -1,4 +1,4 @@
--- Document 01, 'Phases', and where a stop leads: a lead's tick but for its command. Definitions only.
+-- Document 01, 'Phases', and where a stop leads: a lead's tick but for its command and the energy that this adds. Definitions only.
 use mathlib.Core.Bool.{Bool, false, not, cond, _&&_, _||_}
 use mathlib.Core.List.{List, [], _∷_}
 use Prim.Native.Nat.{ℕ, _+_, min}

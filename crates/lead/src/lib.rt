@@ -1,4 +1,4 @@
-// One lead: its conversation with the car, tick by tick, and the amperes that it wants. By value: bytes stand in lead_records.
+// One lead: its conversation with the car, tick by tick, the amperes that it wants, and the energy that it counts. By value: bytes stand in lead_records.
 // Rests on readings, frames and common, and knows nothing of other leads.
 mod figures;
 mod good;

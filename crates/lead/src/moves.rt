@@ -1,4 +1,4 @@
-// Moves, and where a stop leads: a lead's tick but for its command.
+// Moves, and where a stop leads: a lead's tick but for its command and the energy that this adds.
 use super::figures::Figure;
 use super::names::Phase;
 use super::names::Reason;
@@ -82,7 +82,7 @@ impl HeardLead {
 }
 
 impl Lead {
-    // A tick but for the command.
+    // A tick but for the command and the energy that this adds.
     pub fn decide(self, ratings: Ratings, input: Input) -> Lead
         ensures { λ r. ⌜ r ≡ decide ratings input self ⌝ }
     {

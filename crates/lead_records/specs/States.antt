@@ -22,7 +22,7 @@ spareFrom = 28
 
 -- "0 phase; 1 reason, 0 for none; 2 command; 3 request; 4, 5 bytes 4, 5 of H'102; 6 silence; 7 seen (bits 0–2 for H'100–H'102);
 -- 8–9 threshold; 10–11 maximum voltage; 12–13 target; 14, 15 bytes 1, 2 of H'101; 16–19 age"
--- 2026-01: "a count of watt-ticks in eight of the lead's spare state bytes (20–27)"
+-- 2026-01: "a count of watt-ticks in eight of the lead's … state bytes (20–27)"
 unfoldable pub decode : List ℕ → Lead
 decode b =
     record {

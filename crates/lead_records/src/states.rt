@@ -145,7 +145,7 @@ impl StateRecord {
         bytes
     }
 
-    // Those of a lead that is fresh but for what it knows of the car.
+    // The bytes of a lead that is fresh but for what it knows of the car.
     fn car_bytes(car: Car) -> [u8; StateRecord::SIZE]
         ensures { λ r. ⌜ r ≡ encode (withCar car fresh) ⌝ }
     {

@@ -16,9 +16,9 @@ use Rattle.post.specs.Calls.{SetUp, setupOf}
 use Rattle.post.specs.declared.head.Head.{Head}
 use Rattle.post.proofs.Taken.{head-taken, setup-head}
 use Rattle.post.proofs.Posts.{Sound, fresh-sound, read-sound, read-again}
-use Rattle.safety.specs.Lists.{Call, setup, tick, outcome, outcomes, ticksOf, stretchesOf}
+use Rattle.safety.specs.Lists.{Call, setup, tick, outcome, outcomes, Tick, ticksOf, stretchesOf, EachStretch}
 use Rattle.safety.specs.Trace.{post, unusable, keptOf, trace}
-use Rattle.safety.specs.Demand3.{Demand3, EachStretch}
+use Rattle.safety.specs.Demand3.{Demand3}
 use Rattle.safety.specs.Energy.{Energy}
 use Rattle.safety.proofs.Agreement.{all-follow}
 use Rattle.safety.proofs.Numbers.{noOutcome, trace-never-6}
@@ -83,22 +83,36 @@ begins : (state : List ℕ) (h : Head) (buffer : List ℕ) → setupOf h buffer 
 unfolding outcome
 begins state h buffer accepted = rw accepted
 
--- Over any list of calls from any bytes: what every accepted setup begins satisfies demand 3, up to the next one.
-pub every-stretch : (state : List ℕ) (calls : List Call) → EachStretch (stretchesOf state calls)
-unfolding stretchesOf
-every-stretch state [] = tt
-every-stretch state (tick input output ∷ calls) = every-stretch (outcome state (tick input output) .state) calls
-every-stretch state (setup h buffer ∷ calls) = go (eqb (setupOf h buffer .number) 0) refl (every-stretch _ calls)
-  where
-    after : List ℕ
-    after = outcome state (setup h buffer) .state
+-- a claim about every list from an accepted setup
+module _
+    (claim : Head → List Tick → Type 0)
+    (claimed :
+    (h : Head) (buffer : List ℕ)
+    → setupOf h buffer .number ≡ 0
+    → (calls : List Call)
+    → claim h (ticksOf (setupOf h buffer .state) calls)) where
+  each-stretch : (state : List ℕ) (calls : List Call) → EachStretch claim (stretchesOf state calls)
+  unfolding stretchesOf
+  each-stretch state [] = tt
+  each-stretch state (tick input output ∷ calls) = each-stretch (outcome state (tick input output) .state) calls
+  each-stretch state (setup h buffer ∷ calls) = go (eqb (setupOf h buffer .number) 0) refl (each-stretch _ calls)
+    where
+      after : List ℕ
+      after = outcome state (setup h buffer) .state
 
-    go :
-        (b : Bool)
-        → eqb (setupOf h buffer .number) 0 ≡ b
-        → EachStretch (stretchesOf after calls)
-        → EachStretch (cond b (record { head = h; ticks = ticksOf after calls } ∷ []) [] ++ stretchesOf after calls)
-    go true e rest =
-        let accepted : setupOf h buffer .number ≡ 0 = eqb-true (setupOf h buffer .number) 0 e in
-        (rw (begins state h buffer accepted) (demand-3 h buffer accepted calls), rest)
-    go false e rest = rest
+      go :
+          (b : Bool)
+          → eqb (setupOf h buffer .number) 0 ≡ b
+          → EachStretch claim (stretchesOf after calls)
+          → EachStretch claim (cond b (record { head = h; ticks = ticksOf after calls } ∷ []) [] ++ stretchesOf after calls)
+      go true e rest =
+          let accepted : setupOf h buffer .number ≡ 0 = eqb-true (setupOf h buffer .number) 0 e in
+          (rw (begins state h buffer accepted) (claimed h buffer accepted calls), rest)
+      go false e rest = rest
+
+-- Over any list of calls from any bytes: what every accepted setup begins satisfies demand 3 and request 2026-01's claim, up to the next one.
+pub every-stretch : (state : List ℕ) (calls : List Call) → EachStretch Demand3 (stretchesOf state calls)
+every-stretch = each-stretch Demand3 demand-3
+
+pub energy-every-stretch : (state : List ℕ) (calls : List Call) → EachStretch Energy (stretchesOf state calls)
+energy-every-stretch = each-stretch Energy energy

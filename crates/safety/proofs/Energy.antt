@@ -29,7 +29,7 @@ use Rattle.post.proofs.RuledTicks.{sound-stays, shown-command, shown-threshold}
 use Rattle.post.proofs.Taken.{Taken, good-taken}
 use Rattle.safety.specs.Lists.{Tick}
 use Rattle.safety.specs.Demand3.{noTick, inputsAt, leadsBefore, phaseBefore, phaseAt, Moves}
-use Rattle.safety.specs.Energy.{shortList, countAt, wattsAt, sumOver, LatestStart, NeverStarted, Energy}
+use Rattle.safety.specs.Energy.{shortList, energyAt, wattsAt, sumOver, LatestStart, NeverStarted, Energy}
 use Rattle.safety.proofs.Outputs.{Left}
 use Rattle.safety.proofs.Steps.{one-more, levelAt, input, phase-most, phase-is, in-tick, unpowered}
 
@@ -38,16 +38,13 @@ sum-most : (n : ℕ) (f : ℕ → ℕ) (most : ℕ) → ((m : ℕ) → m < n →
 sum-most zero f most each = omega arith
 sum-most (suc n) f most each = omega (arith, sum-most n f most (λ m x. each m (omega arith)), each n (omega arith))
 
--- the latest start before tick n, or none
+-- a lead has a latest start or none
 module _ (h : Head) (ticks : List Tick) (k : ℕ) where
   abbrev Started : ℕ → Type 0
   Started u = Moves h ticks u k 0 1
 
-  record Latest (n : ℕ) : Type 0 where
-    at : ℕ
-    sooner : at < n
-    started : Started at
-    last : (u : ℕ) → u < n → at < u → Started u → ⊥
+  abbrev LatestOrNever : ℕ → Type 0
+  LatestOrNever t = ((first : ℕ) × LatestStart h ticks first t k) ⊎ NeverStarted h ticks t k
 
   started-in : (u : ℕ) → Dec (Started u)
   started-in u = go (ℕ-discrete (phaseBefore h ticks u k) 0) (ℕ-discrete (phaseAt h ticks u k) 1)
@@ -57,32 +54,33 @@ module _ (h : Head) (ticks : List Tick) (k : ℕ) where
       go (no a) b = no (λ s. a (s .0))
       go (yes a) (no b) = no (λ s. b (s .1))
 
-  latest-before : (n : ℕ) → Latest n ⊎ ((u : ℕ) → u < n → Started u → ⊥)
-  latest-before zero = inr (λ u x. absurd (omega arith))
-  latest-before (suc n) = go (started-in n) (latest-before n)
-    where
-      go : Dec (Started n) → Latest n ⊎ ((u : ℕ) → u < n → Started u → ⊥) → Latest (suc n) ⊎ ((u : ℕ) → u < suc n → Started u → ⊥)
-      go (yes now) r = inl (record { at = n; sooner = omega arith; started = now; last = λ u x y. absurd (omega arith) })
-      go (no not-now) (inl s) =
-          inl
-          (record {
-            at = s .at;
-            sooner = omega (arith, s .sooner);
-            started = s .started;
-            last = one-more n (s .last) (λ y. not-now);
-          })
-      go (no not-now) (inr never) = inr (one-more n never not-now)
+  starts-now : (t : ℕ) → Started t → LatestOrNever t
+  starts-now t now = inl (t, record { sofar = omega arith; started = now; latest = λ u x y. absurd (omega arith) })
 
-  latest-or-never : (t : ℕ) → ((first : ℕ) × LatestStart h ticks first t k) ⊎ NeverStarted h ticks t k
-  latest-or-never t = go (latest-before (suc t))
+  latest-or-never : (t : ℕ) → LatestOrNever t
+  latest-or-never zero = go (started-in 0)
     where
-      go :
-          Latest (suc t) ⊎ ((u : ℕ) → u < suc t → Started u → ⊥)
-          → ((first : ℕ) × LatestStart h ticks first t k) ⊎ NeverStarted h ticks t k
-      go (inl s) =
-          inl
-          (s .at, record { sofar = omega (arith, s .sooner); started = s .started; latest = λ u x y. s .last u (omega arith) x })
-      go (inr never) = inr (λ u x. never u (omega arith))
+      go : Dec (Started 0) → LatestOrNever 0
+      go (yes now) = starts-now 0 now
+      go (no not-now) = inr (λ u x. one-more {P = λ v. Started v → ⊥} 0 (λ v y. absurd (omega arith)) not-now u (omega arith))
+  latest-or-never (suc t) = go (started-in (suc t)) (latest-or-never t)
+    where
+      go : Dec (Started (suc t)) → LatestOrNever t → LatestOrNever (suc t)
+      go (yes now) r = starts-now (suc t) now
+      go (no not-now) (inl s) =
+          inl (
+            s .0,
+            record {
+              sofar = omega (arith, s .1 .sofar);
+              started = s .1 .started;
+              latest =
+                  λ u x y.
+                  one-more {P = λ v. s .0 < v → Started v → ⊥} (suc t) (λ v z a. s .1 .latest v a (omega arith)) (λ a. not-now)
+                  u (omega arith) x;
+            },
+          )
+      go (no not-now) (inr never) =
+          inr (λ u x. one-more {P = λ v. Started v → ⊥} (suc t) (λ v y. never v (omega arith)) not-now u (omega arith))
 
 module _
     (h : Head) (ticks : List Tick) (sound : Sound h (λ k. fresh))
@@ -112,8 +110,8 @@ module _
     good t = good-says (h .ratings) (after t) (sound-before (suc t) .each k y)
 
     -- the state's bytes
-    count-is : (t : ℕ) → t < length ticks → countAt h ticks t k ≡ after t .energy
-    count-is t x = rw (left t x .state) (energy-back h (leadsBefore h ticks (suc t)) k y)
+    energy-is : (t : ℕ) → t < length ticks → energyAt h ticks t k ≡ after t .energy
+    energy-is t x = rw (left t x .state) (energy-back h (leadsBefore h ticks (suc t)) k y)
 
     -- the output's bytes: where no threshold is shown the command is 0
     watts-are : (t : ℕ) → t < length ticks → wattsAt h ticks t k ≡ watts t
@@ -243,7 +241,7 @@ module _
         started-or-never = λ t k. latest-or-never h ticks k t;
         counted = counted;
         never-started =
-            λ t k x y never. count-is k y t x ∙ idle-before k y (suc t) (λ u z. never u (omega arith)) .1;
+            λ t k x y never. energy-is k y t x ∙ idle-before k y (suc t) (λ u z. never u (omega arith)) .1;
         too-short =
             λ short t k first x y s.
             omega (arith, counted t k first x y s, sum-short k y short t first x (s .sofar));
@@ -254,5 +252,5 @@ module _
           → t < length ticks
           → k < h .leads
           → LatestStart h ticks first t k
-          → countAt h ticks t k ≡ min (sumOver h ticks first t k) mostEnergy
-      counted t k first x y s = count-is k y t x ∙ counted-since k y first (s .started) t (s .sofar) x (s .latest)
+          → energyAt h ticks t k ≡ min (sumOver h ticks first t k) mostEnergy
+      counted t k first x y s = energy-is k y t x ∙ counted-since k y first (s .started) t (s .sofar) x (s .latest)

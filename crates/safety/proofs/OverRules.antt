@@ -1,4 +1,4 @@
--- Demand 3, of every list whose outputs show the commands that document 01's rules give. Assumes nothing.
+-- Demand 3, of every list whose outputs show the commands that the rules give. Assumes nothing.
 use mathlib.Core.List.{List}
 use mathlib.Core.Path.{_≡_, refl, sym, _∙_}
 use Prim.Native.Nat.{ℕ, zero, suc, _*_, _≤_, _<_}

@@ -21,7 +21,7 @@ use Rattle.lead_records.specs.Inputs.{contactsOf, frameRecords}
 use Rattle.post.specs.Heads.{outputPart}
 use Rattle.post.specs.Rules.{TickInput, tickInput, inputAt, wantAfter, leadAfter}
 use Rattle.post.specs.declared.head.Head.{Head}
-use Rattle.safety.specs.Lists.{Tick, Stretch}
+use Rattle.safety.specs.Lists.{Tick}
 
 -- past the end of a list
 abbrev pub noTick : Tick
@@ -163,8 +163,3 @@ module _ (h : Head) (ticks : List Tick) where
     pub zero-by-the-20th : (t k n : ℕ) → t < length ticks → k < h .leads → NoAt t k n → Zeroed t (t + 19) k
     -- "There it stays until unplugged and then started anew."
     pub stays-zero : (t k n : ℕ) → t < length ticks → k < h .leads → NoAt t k n → StaysZero t k
-
--- demand 3 of every stretch of a list
-abbrev pub EachStretch : List Stretch → Type 0
-EachStretch [] = Unit
-EachStretch (stretch ∷ rest) = Demand3 (stretch .head) (stretch .ticks) × EachStretch rest

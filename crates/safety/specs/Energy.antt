@@ -12,15 +12,15 @@ use Rattle.post.specs.declared.head.Head.{Head}
 use Rattle.safety.specs.Lists.{Tick}
 use Rattle.safety.specs.Demand3.{noTick, commandAt, Moves}
 
--- "too short to reach that value": setup takes at most 200 A and 500 V, so these many ticks do not reach it, which are some 584,000 years
+-- "too short to reach that value": setup takes at most 200 A and 500 V, so this many ticks do not reach it, some 584,000 years of them
 abbrev pub shortList : ℕ
 shortList = mostEnergy / (200 * 500)
 
 -- The list, as demand 3 has it: what setup fixed, and the ticks that returned 0. Ticks and leads are numbered from 0.
 module _ (h : Head) (ticks : List Tick) where
   -- the "count of watt-ticks in eight of the lead's … state bytes (20–27)", as the tick left them
-  abbrev pub countAt : ℕ → ℕ → ℕ
-  countAt t k = u64At (statePart (getD ticks t noTick .state) k) 20
+  abbrev pub energyAt : ℕ → ℕ → ℕ
+  energyAt t k = u64At (statePart (getD ticks t noTick .state) k) 20
 
   -- the threshold that the lead shows: bytes 4 and 5 of its H'108, whose first byte is the output's byte 8
   abbrev pub shownThresholdAt : ℕ → ℕ → ℕ
@@ -49,9 +49,9 @@ module _ (h : Head) (ticks : List Tick) where
     pub started-or-never : (t k : ℕ) → ((start : ℕ) × LatestStart start t k) ⊎ NeverStarted t k
     -- After every tick, "each count equals the sum over the outputs since the lead's start", and "stops at its largest value".
     pub counted :
-        (t k start : ℕ) → t < length ticks → k < h .leads → LatestStart start t k → countAt t k ≡ min (sumOver start t k) mostEnergy
+        (t k start : ℕ) → t < length ticks → k < h .leads → LatestStart start t k → energyAt t k ≡ min (sumOver start t k) mostEnergy
     -- a lead that was never started has counted nothing
-    pub never-started : (t k : ℕ) → t < length ticks → k < h .leads → NeverStarted t k → countAt t k ≡ 0
+    pub never-started : (t k : ℕ) → t < length ticks → k < h .leads → NeverStarted t k → energyAt t k ≡ 0
     -- "For every list of ticks from a fresh post, too short to reach that value, each count equals the sum"
     pub too-short :
         length ticks ≤ shortList
@@ -59,4 +59,4 @@ module _ (h : Head) (ticks : List Tick) where
         → t < length ticks
         → k < h .leads
         → LatestStart start t k
-        → countAt t k ≡ sumOver start t k
+        → energyAt t k ≡ sumOver start t k

@@ -65,3 +65,8 @@ stretchesOf state [] = []
 stretchesOf state (call ∷ calls) =
     let after : List ℕ = outcome state call .state in
     begun call after calls ++ stretchesOf after calls
+
+-- a claim about what setup fixed and the ticks of a list, of every stretch
+abbrev pub EachStretch : (Head → List Tick → Type 0) → List Stretch → Type 0
+EachStretch claim [] = Unit
+EachStretch claim (stretch ∷ rest) = claim (stretch .head) (stretch .ticks) × EachStretch claim rest
