@@ -58,13 +58,13 @@ pub fn high_byte(x: u16) -> u8
     (x / 256) as u8
 }
 
-pub fn low_half(x: u32) -> u16
+fn low_half(x: u32) -> u16
     ensures { λ r. ⌜ r ≡ lowHalf x ⌝ }
 {
     (x % 65536) as u16
 }
 
-pub fn high_half(x: u32) -> u16
+fn high_half(x: u32) -> u16
     ensures { λ r. ⌜ r ≡ highHalf x ⌝ }
 {
     (x / 65536) as u16
