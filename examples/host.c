@@ -5,9 +5,15 @@
  *
  * The session shows why one lead may give 62 A and the lead beside it 125 A: both cars ask for
  * 125 A and the post has 50,000 W, so that each lead gets 25,000 W. At 400 V that carries 62
- * whole amperes, at 200 V it carries 125. It also shows what a host does when a tick is refused.
+ * whole amperes, at 200 V it carries 125. It also shows what a host does when a tick is refused,
+ * and when a car's frames come faster than they are fetched.
+ *
+ * Each lead has a receive chip, here that of receiver.h: what a car sends arrives there, and before
+ * each tick the host fetches it into the tick's input. It asks every time and needs no interrupt,
+ * so the mask stays 0.
  */
 #include "post.h"
+#include "receiver.h"
 
 #include <stdbool.h>
 #include <stdio.h>
@@ -74,6 +80,9 @@ enum { STEPS = sizeof session / sizeof *session };
 /* Ticks in which the host makes a mistake: it sets a spare bit of the input. */
 static bool is_spoilt(unsigned now) { return now == 146 || (now >= 200 && now <= 205); }
 
+/* A tick before which a car sends its three frames three times: one more than the chip holds. */
+static bool is_repeated(unsigned now, unsigned lead) { return now == 100 && lead == 0; }
+
 static const char *const phases[] = {
     [POST_PHASE_IDLE] = "idle", [POST_PHASE_HANDSHAKE] = "handshake",
     [POST_PHASE_LOCKING] = "locking", [POST_PHASE_INSULATION_TEST] = "insulation test",
@@ -106,6 +115,12 @@ static const char *const answers[] = {
     [POST_REFUSED_OUTPUT_LENGTH] = "length of the output", [POST_REFUSED_INPUT] = "input not good",
 };
 
+static const char *const receiver_answers[] = {
+    [RECEIVER_DONE] = "done", [RECEIVER_REFUSED_RECEIVER] = "length of the receiver",
+    [RECEIVER_REFUSED_FRAME] = "length of the frame", [RECEIVER_REFUSED_ROOM] = "room lent",
+    [RECEIVER_REFUSED_REGISTER] = "number of the register",
+};
+
 /* The name of a number, which may be any: none is looked for past the end of the table. */
 #define NAME_OF(names, number) name_of(names, sizeof(names) / sizeof *(names), number)
 
@@ -113,13 +128,45 @@ static const char *name_of(const char *const *names, size_t count, uint32_t numb
     return number < count && names[number] != NULL ? names[number] : "not known to this host";
 }
 
-static void put_frame(uint8_t *record, uint16_t identifier, const uint8_t *data) {
-    post_put_u16(record + POST_FRAME_IDENTIFIER, identifier);
-    record[POST_FRAME_LENGTH] = POST_FRAME_DATA_LENGTH;
-    memcpy(record + POST_FRAME_DATA, data, POST_FRAME_DATA_LENGTH);
+/* What the host drives at a lead, and its bus: the frames sent are counted and the newest kept,
+ * those of the car arrive in the receive chip. */
+struct board {
+    uint8_t amperes, switches;
+    uint16_t test_volts;
+    bool is_opened; /* its relays, by the host itself: no charge until the lead is idle */
+    unsigned sent;
+    uint8_t frames[2 * POST_FRAME_DATA_LENGTH];
+    uint8_t receiver[RECEIVER_LENGTH];
+};
+
+/* Whether a receiver has done a call; if not, the desk is told. A refusal is a mistake of this host
+ * and has changed nothing: the tick goes on without what the call was to bring. */
+static bool is_done(uint32_t number) {
+    if (number != RECEIVER_DONE)
+        printf("receiver refused with %lu: %s\n", (unsigned long)number,
+               NAME_OF(receiver_answers, number));
+    return number == RECEIVER_DONE;
 }
 
-static void put_car(uint8_t *record, const struct car *car, uint8_t status) {
+/* A refused call leaves 0: then no frame is fetched, and none is told to be lost. */
+static uint8_t read_register(const struct board *board, uint32_t number) {
+    uint8_t value = 0;
+    is_done(receiver_read_checked(board->receiver, sizeof board->receiver, number, &value, 1));
+    return value;
+}
+
+/* The chip takes a frame record of the post as it is. Were their lengths to differ, it would refuse
+ * the frame here and the room for it in take_frames. */
+static void send_frame(struct board *board, uint16_t identifier, const uint8_t *data) {
+    uint8_t frame[POST_FRAME_RECORD_LENGTH];
+
+    post_put_u16(frame + POST_FRAME_IDENTIFIER, identifier);
+    frame[POST_FRAME_LENGTH] = POST_FRAME_DATA_LENGTH;
+    memcpy(frame + POST_FRAME_DATA, data, POST_FRAME_DATA_LENGTH);
+    is_done(receiver_arrive_checked(board->receiver, sizeof board->receiver, frame, sizeof frame));
+}
+
+static void send_car(struct board *board, const struct car *car, uint8_t status) {
     uint8_t h100[POST_FRAME_DATA_LENGTH] = {0}, h101[POST_FRAME_DATA_LENGTH] = {0};
     uint8_t h102[POST_FRAME_DATA_LENGTH] = {0};
 
@@ -130,24 +177,33 @@ static void put_car(uint8_t *record, const struct car *car, uint8_t status) {
     h102[POST_H102_REQUEST] = car->request;
     h102[POST_H102_STATUS] = status;
 
-    put_frame(record + POST_INPUT_FRAME(0), POST_H100, h100);
-    put_frame(record + POST_INPUT_FRAME(1), POST_H101, h101);
-    put_frame(record + POST_INPUT_FRAME(2), POST_H102, h102);
-    record[POST_INPUT_FRAME_COUNT] = 3;
+    send_frame(board, POST_H100, h100);
+    send_frame(board, POST_H101, h101);
+    send_frame(board, POST_H102, h102);
 }
 
-/* What the host drives at a lead, and its bus, which counts the frames and keeps the newest. */
-struct board {
-    uint8_t amperes, switches;
-    uint16_t test_volts;
-    bool is_opened; /* its relays, by the host itself: no charge until the lead is idle */
-    unsigned sent;
-    uint8_t frames[2 * POST_FRAME_DATA_LENGTH];
-};
+/* The step of a lead that holds in a tick, NULL before its first. */
+static const struct step *step_of(unsigned lead, unsigned now) {
+    const struct step *last = NULL;
 
-/* The whole record of a lead, so that of several steps the last one holds. */
+    for (const struct step *step = session; step < session + STEPS; step++)
+        if (step->lead == lead && step->from <= now)
+            last = step;
+    return last;
+}
+
+/* What the cars send before a tick. On a board this happens by itself. */
+static void send_cars(unsigned now, struct board *boards) {
+    for (unsigned lead = 0; lead < LEADS; lead++) {
+        const struct step *step = step_of(lead, now);
+        unsigned times = is_repeated(now, lead) ? 3 : 1;
+
+        for (unsigned i = 0; step != NULL && step->status != SILENT && i < times; i++)
+            send_car(&boards[lead], &cars[lead], (uint8_t)step->status);
+    }
+}
+
 static void put_lead(uint8_t *record, const struct step *step, const struct board *board) {
-    memset(record, 0, POST_INPUT_LEAD_LENGTH);
     record[POST_INPUT_CONTACTS] = step->contacts;
     record[POST_INPUT_PRESENT] = POST_PRESENT_VOLTS | POST_PRESENT_AMPERES;
     post_put_float(record + POST_INPUT_VOLTS, step->volts);
@@ -156,16 +212,31 @@ static void put_lead(uint8_t *record, const struct step *step, const struct boar
         record[POST_INPUT_PRESENT] |= POST_PRESENT_INSULATION;
         post_put_float(record + POST_INPUT_INSULATION, step->ohms);
     }
-    if (step->status != SILENT)
-        put_car(record, &cars[step->lead], (uint8_t)step->status);
 }
 
-static void put_input(uint8_t *input, unsigned now, const struct board *boards) {
+/* Fetches the frames that the chip holds, the one held longest first, while there are records. */
+static void take_frames(uint8_t *record, struct board *board) {
+    uint8_t *count = record + POST_INPUT_FRAME_COUNT;
+
+    while (*count < POST_FRAME_RECORDS && read_register(board, RECEIVER_STATUS) != 0) {
+        if (!is_done(receiver_drain_checked(board->receiver, sizeof board->receiver,
+                                            record + POST_INPUT_FRAME(*count),
+                                            POST_FRAME_RECORD_LENGTH)))
+            return;
+        ++*count;
+    }
+}
+
+static void put_input(uint8_t *input, unsigned now, struct board *boards) {
     memset(input, 0, POST_INPUT_LENGTH(LEADS));
     post_put_u32(input + POST_INPUT_POWER_LIMIT, POWER_LIMIT);
-    for (const struct step *step = session; step < session + STEPS; step++)
-        if (step->from <= now)
-            put_lead(input + POST_INPUT_LEAD(step->lead), step, &boards[step->lead]);
+    for (unsigned lead = 0; lead < LEADS; lead++) {
+        const struct step *step = step_of(lead, now);
+
+        if (step != NULL)
+            put_lead(input + POST_INPUT_LEAD(lead), step, &boards[lead]);
+        take_frames(input + POST_INPUT_LEAD(lead), &boards[lead]);
+    }
     if (is_spoilt(now))
         input[POST_INPUT_LEAD(0) + POST_INPUT_CONTACTS] |= 0x80;
 }
@@ -206,8 +277,24 @@ static void show_steps(unsigned now) {
     for (size_t i = 0; i < STEPS; i++)
         if (session[i].from == now)
             printf("tick %3u  [lead %u: %s]\n", now, session[i].lead + 1, session[i].what);
+    for (unsigned lead = 0; lead < LEADS; lead++)
+        if (is_repeated(now, lead))
+            printf("tick %3u  [lead %u: car sends its three frames three times]\n", now, lead + 1);
     if (is_spoilt(now) && !is_spoilt(now - 1))
         printf("tick %3u  [the host has set a spare bit of the input]\n", now);
+}
+
+/* Overrun tells that frames were lost, not how many. It is written so that the next loss shows. */
+static void show_losses(unsigned now, struct board *boards) {
+    for (unsigned lead = 0; lead < LEADS; lead++) {
+        struct board *board = &boards[lead];
+
+        if (read_register(board, RECEIVER_OVERRUN) != 0) {
+            printf("tick %3u  lead %u: one frame of the car was lost, or more\n", now, lead + 1);
+            is_done(receiver_write_checked(board->receiver, sizeof board->receiver,
+                                           RECEIVER_OVERRUN, 0));
+        }
+    }
 }
 
 static void show_switches(const struct board *board) {
@@ -288,11 +375,16 @@ int main(void) {
         printf("setup refused with %lu: %s\n", (unsigned long)number, NAME_OF(answers, number));
         return 1;
     }
+    for (unsigned lead = 0; lead < LEADS; lead++)
+        if (!is_done(receiver_power_up_checked(boards[lead].receiver, RECEIVER_LENGTH)))
+            return 1;
     /* Here no time passes. A post waits for its tenth of a second in each turn, and a timer beside
      * this loop cuts off when a tick is late. */
     for (unsigned now = 1; now <= LAST_TICK; now++) {
         show_steps(now);
+        send_cars(now, boards);
         put_input(input, now, boards);
+        show_losses(now, boards);
         number = post_tick(state, sizeof state, input, sizeof input, output, sizeof output);
         for (unsigned lead = 0; lead < LEADS; lead++)
             if (number == POST_DONE) {
@@ -311,5 +403,7 @@ int main(void) {
     printf("tick %3u  [a NULL for the input]\n", LAST_TICK + 1);
     number = post_tick(state, sizeof state, NULL, sizeof input, output, sizeof output);
     show_refusal(LAST_TICK + 1, number, boards);
-    return number == POST_REFUSED_INPUT_LENGTH ? 0 : 1;
+    printf("tick %3u  [a NULL for a receiver]\n", LAST_TICK + 1);
+    bool is_taken = is_done(receiver_power_up_checked(NULL, RECEIVER_LENGTH));
+    return number == POST_REFUSED_INPUT_LENGTH && !is_taken ? 0 : 1;
 }

@@ -1,16 +1,18 @@
 //! The library's tick measured against that of the second implementation, in one process, on the
-//! same inputs: posts of one to four leads, all charging.
+//! same inputs: posts of one to four leads, all charging. Then in the same way the receive chip's
+//! arrivals and drains.
 //!
-//! It links the static library `post`.
+//! It links the static libraries `post` and `receiver`.
 //!
-//! - `benchmark` times both sides and prints a table.
+//! - `benchmark` times both sides and prints two tables.
 //! - `benchmark SIDE KIND LEADS ROUNDS` does the rounds of one side and row untimed and prints how
-//!   many ticks they had, for a tool that counts instructions. What comes before the rounds is the
-//!   same for any number of them.
+//!   many ticks they had, for a tool that counts instructions; so does `benchmark SIDE KIND HELD
+//!   ROUNDS` of pairs or losses. What comes before the rounds is the same for any number of them.
 //!
-//! The table is printed only if the sides agree: they are compared after every tick of a session
-//! first, then after each timed round.
+//! The tables are printed only if the sides agree: they are compared after every tick of a session
+//! first, or after every frame, then after each timed round.
 
+mod receivers;
 mod sides;
 
 use std::process::ExitCode;
@@ -26,7 +28,8 @@ const PASSES: usize = 12;
 const ROUNDS_IN_A_PASS: usize = 250;
 const ROUNDS: usize = PASSES * ROUNDS_IN_A_PASS;
 
-const USAGE: &str = "usage: benchmark [SIDE KIND LEADS ROUNDS], side and kind as in the table\n";
+const USAGE: &str =
+    "usage: benchmark [SIDE KIND LEADS|HELD ROUNDS], side and kind as in the tables\n";
 
 fn main() -> ExitCode {
     let arguments: Vec<String> = std::env::args().skip(1).collect();
@@ -35,6 +38,13 @@ fn main() -> ExitCode {
         [side, kind, leads, rounds] => count(side, kind, leads, rounds),
         _ => Err(USAGE.to_string()),
     })
+}
+
+/// Keeps the least time that such work has taken.
+fn timed(least: &mut Duration, work: impl FnOnce()) {
+    let start = Instant::now();
+    work();
+    *least = start.elapsed().min(*least);
 }
 
 /// A row of the table: one kind of ticks and a number of leads, both sides.
@@ -66,9 +76,7 @@ impl Row {
         for _ in 0..ROUNDS_IN_A_PASS {
             for (post, least) in self.posts.iter_mut().zip(&mut self.least) {
                 post.state.copy_from_slice(&self.state);
-                let start = Instant::now();
-                post.run(&mut self.inputs);
-                *least = start.elapsed().min(*least);
+                timed(least, || post.run(&mut self.inputs));
             }
             sides::same_bytes(&self.posts)?;
         }
@@ -89,8 +97,12 @@ fn table() -> Result<String, String> {
             rows.push(Row::new(kind, leads)?);
         }
     }
+    let mut receivers = receivers::rows()?;
     for _ in 0..PASSES {
         for row in &mut rows {
+            row.time()?;
+        }
+        for row in &mut receivers {
             row.time()?;
         }
     }
@@ -117,16 +129,25 @@ fn table() -> Result<String, String> {
         });
         text += &format!("       each further lead, ns: library{library}; second{second}\n");
     }
-    Ok(text)
+    Ok(text + &receivers::text(&receivers))
 }
 
-fn count(side: &str, kind: &str, leads: &str, rounds: &str) -> Result<String, String> {
-    let side = SIDES.into_iter().find(|known| known.0 == side);
-    let kind = KINDS.into_iter().find(|known| *known == kind);
-    let [leads, rounds] = [leads, rounds].map(|text| text.parse().unwrap_or(0));
-    let (Some(side), Some(kind), 1..=MOST_LEADS) = (side, kind, leads) else {
-        return Err(USAGE.to_string());
-    };
+fn count(side: &str, kind: &str, count: &str, rounds: &str) -> Result<String, String> {
+    let [count, rounds] = [count, rounds].map(|text| text.parse().unwrap_or(0));
+    let counted = count_ticks(side, kind, count, rounds);
+    let counted = counted.or_else(|| receivers::count(side, kind, count, rounds));
+    counted
+        .map(|counted| format!("{counted}\n"))
+        .ok_or(USAGE.to_string())
+}
+
+/// `None` if there is no such side or row.
+fn count_ticks(side: &str, kind: &str, leads: usize, rounds: usize) -> Option<usize> {
+    let side = SIDES.into_iter().find(|known| known.0 == side)?;
+    let kind = KINDS.into_iter().find(|known| *known == kind)?;
+    if !(1..=MOST_LEADS).contains(&leads) {
+        return None;
+    }
     let mut inputs = list(kind, leads);
     let mut post = Post::charging(side, kind, leads);
     let state = post.state.clone();
@@ -134,5 +155,5 @@ fn count(side: &str, kind: &str, leads: &str, rounds: &str) -> Result<String, St
         post.state.copy_from_slice(&state);
         post.run(&mut inputs);
     }
-    Ok(format!("{}\n", rounds * LIST))
+    Some(rounds * LIST)
 }

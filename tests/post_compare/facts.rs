@@ -9,13 +9,13 @@ use second::lead::*;
 use second::post::*;
 use second::readings::{MOST_AMPERES, MOST_CABLE_RESISTANCE, MOST_VOLTS};
 use second::sharing::MOST_LEADS;
+use shared::coverage::{pairs, Counts, Fact, Table};
 use shared::lead_input::KNOWN;
 use shared::numbers::{Numbers, TINY};
 use shared::post::number;
 use shared::stops::reasons;
 
 use crate::causes::{head_flaw, lead_flaw, lead_input_flaws, BadLead, Setup, Tick};
-use crate::coverage::{Counts, Fact, Table};
 use crate::turns::{wanted, Turn};
 
 /// The parts in which a thing has to occur.
@@ -25,12 +25,6 @@ const GARBLED: Counts = [0, 0, 1];
 const REACHED: Counts = [1, 1, 0];
 const WITH_REFUSALS: Counts = [1, 0, 1];
 const EVERYWHERE: Counts = [1, 1, 1];
-
-/// Each refusal with each that is asked about later.
-fn pairs(refusals: &[u32]) -> impl Iterator<Item = (u32, u32)> + '_ {
-    let later = |at: usize| refusals[at + 1..].iter();
-    (0..refusals.len()).flat_map(move |at| later(at).map(move |&later| (refusals[at], later)))
-}
 
 // Setups
 

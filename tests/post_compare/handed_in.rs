@@ -4,6 +4,7 @@ use second::inputs::LeadInput;
 use second::lead::{place, Rating, LEAST_VOLTS, STATE_BYTES};
 use second::post;
 use second::sharing::MOST_LEADS;
+use shared::compare::junk;
 use shared::dice::Dice;
 use shared::lead_input::{anything, build};
 use shared::meter;
@@ -12,7 +13,7 @@ use shared::post::number;
 use shared::scene::{Car, Scene};
 use shared::stops::{any_no, flip_a_contact, Standing};
 
-use crate::compare::{junk, Call, Run};
+use crate::compare::{Call, Run};
 use crate::flaws::{one_of, wrong_length};
 use crate::numbers;
 use crate::states::{self, around};

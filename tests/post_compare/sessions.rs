@@ -3,12 +3,13 @@
 
 use second::post;
 use second::sharing::MOST_LEADS;
+use shared::compare::junk;
 use shared::dice::Dice;
 use shared::lead_input::build;
 use shared::plan::Plan;
 use shared::post::Post;
 
-use crate::compare::{junk, Call, Run};
+use crate::compare::{Call, Run};
 use crate::numbers;
 use crate::turns::{edge, Turn};
 

@@ -1,8 +1,8 @@
 //! The post's lead controller and power divider, written a second time.
 //!
-//! It describes document 01, with request 2026-01 of document 02, in plain
-//! code, in the order of document 01, and gives the expected answers for tests.
-//! Each layer knows only those above it in this list:
+//! It describes document 01, with requests 2026-01 and 2026-02 of document 02, in
+//! plain code, in the order of document 01, and gives the expected answers for
+//! tests. Each layer knows only those above it in this list:
 //!
 //! - `readings`: what the meter board gives, and the whole numbers made of it
 //! - `frames`: what the car sends and what the post sends
@@ -10,6 +10,9 @@
 //! - `sharing`: the level up to which every want is met
 //! - `post`: the two calls, setup and tick
 //! - `bench`: the language of the bench program
+//!
+//! `receiver` is the receive chip of the new board. It stands beside this list: it
+//! knows frame records and nothing else of these, and none of these knows it.
 //!
 //! `inputs` puts lead inputs together by name, for tests and test programs.
 
@@ -19,6 +22,7 @@ pub mod inputs;
 pub mod lead;
 pub mod post;
 pub mod readings;
+pub mod receiver;
 pub mod sharing;
 
 // A row of a table stays on one line.

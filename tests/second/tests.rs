@@ -1,4 +1,5 @@
-//! Tests through the two calls and the bench language. Tests of a single layer stand beside it.
+//! Tests through the two calls, those of the receiver and the bench language. Tests of a single layer
+//! stand beside it.
 //! Most are tables of cases: what is done, what comes out.
 
 mod bench;
@@ -6,6 +7,7 @@ mod energy;
 mod output;
 mod phases;
 mod questions;
+mod receiver;
 mod refusals;
 mod sessions;
 mod sharing;

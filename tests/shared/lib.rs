@@ -4,6 +4,9 @@
 use std::io::{self, Write};
 use std::process::ExitCode;
 
+mod child;
+pub mod compare;
+pub mod coverage;
 pub mod dice;
 pub mod lead_input;
 pub mod library;

@@ -39,8 +39,8 @@ fn read(file: &File) -> String {
 }
 
 /// The child prints what it comes to; an end before that is told here.
-pub fn watch(factor: &str) -> Result<String, String> {
-    let (ended, note) = run(factor).map_err(|error| format!("no child: {error}\n"))?;
+pub fn watch(program: &str, factor: &str) -> Result<String, String> {
+    let (ended, note) = run(program, factor).map_err(|error| format!("no child: {error}\n"))?;
     match ended {
         Some(status) if note == FINISHED && status.success() => Ok(String::new()),
         Some(_) if note == FINISHED => Err(String::new()),
@@ -50,8 +50,8 @@ pub fn watch(factor: &str) -> Result<String, String> {
 }
 
 /// Without an end of its own if the child has been in one call for too long.
-fn run(factor: &str) -> io::Result<(Option<ExitStatus>, String)> {
-    let path = std::env::temp_dir().join(format!("post_compare.{}", process::id()));
+fn run(program: &str, factor: &str) -> io::Result<(Option<ExitStatus>, String)> {
+    let path = std::env::temp_dir().join(format!("{program}.{}", process::id()));
     let file = File::create_new(&path)?;
     fs::remove_file(&path)?;
     let mut command = Command::new(std::env::current_exe()?);

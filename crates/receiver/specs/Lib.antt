@@ -1,0 +1,4 @@
+pub mod Registers
+pub mod Chip
+pub mod Calls
+pub mod All
