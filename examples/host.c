@@ -139,9 +139,9 @@ struct board {
     uint8_t receiver[RECEIVER_LENGTH];
 };
 
-/* Whether a receiver has done a call; if not, the desk is told. A refusal is a mistake of this host
- * and has changed nothing: the tick goes on without what the call was to bring. */
-static bool is_done(uint32_t number) {
+/* Whether a receiver has done a call; where not, the desk is told. A refusal is a mistake of this
+ * host and has changed nothing: the tick goes on without what the call was to bring. */
+static bool done_or_told(uint32_t number) {
     if (number != RECEIVER_DONE)
         printf("receiver refused with %lu: %s\n", (unsigned long)number,
                NAME_OF(receiver_answers, number));
@@ -151,7 +151,8 @@ static bool is_done(uint32_t number) {
 /* A refused call leaves 0: then no frame is fetched, and none is told to be lost. */
 static uint8_t read_register(const struct board *board, uint32_t number) {
     uint8_t value = 0;
-    is_done(receiver_read_checked(board->receiver, sizeof board->receiver, number, &value, 1));
+    done_or_told(
+        receiver_read_checked(board->receiver, sizeof board->receiver, number, &value, 1));
     return value;
 }
 
@@ -163,7 +164,8 @@ static void send_frame(struct board *board, uint16_t identifier, const uint8_t *
     post_put_u16(frame + POST_FRAME_IDENTIFIER, identifier);
     frame[POST_FRAME_LENGTH] = POST_FRAME_DATA_LENGTH;
     memcpy(frame + POST_FRAME_DATA, data, POST_FRAME_DATA_LENGTH);
-    is_done(receiver_arrive_checked(board->receiver, sizeof board->receiver, frame, sizeof frame));
+    done_or_told(
+        receiver_arrive_checked(board->receiver, sizeof board->receiver, frame, sizeof frame));
 }
 
 static void send_car(struct board *board, const struct car *car, uint8_t status) {
@@ -214,14 +216,15 @@ static void put_lead(uint8_t *record, const struct step *step, const struct boar
     }
 }
 
-/* Fetches the frames that the chip holds, the one held longest first, while there are records. */
+/* Fetches the frames that the chip holds, the one held longest first, while there are records.
+ * Where the tick is refused they are gone unheard; this host lets them go, as cars repeat them. */
 static void take_frames(uint8_t *record, struct board *board) {
     uint8_t *count = record + POST_INPUT_FRAME_COUNT;
 
     while (*count < POST_FRAME_RECORDS && read_register(board, RECEIVER_STATUS) != 0) {
-        if (!is_done(receiver_drain_checked(board->receiver, sizeof board->receiver,
-                                            record + POST_INPUT_FRAME(*count),
-                                            POST_FRAME_RECORD_LENGTH)))
+        if (!done_or_told(receiver_drain_checked(board->receiver, sizeof board->receiver,
+                                                 record + POST_INPUT_FRAME(*count),
+                                                 POST_FRAME_RECORD_LENGTH)))
             return;
         ++*count;
     }
@@ -291,8 +294,8 @@ static void show_losses(unsigned now, struct board *boards) {
 
         if (read_register(board, RECEIVER_OVERRUN) != 0) {
             printf("tick %3u  lead %u: one frame of the car was lost, or more\n", now, lead + 1);
-            is_done(receiver_write_checked(board->receiver, sizeof board->receiver,
-                                           RECEIVER_OVERRUN, 0));
+            done_or_told(receiver_write_checked(board->receiver, sizeof board->receiver,
+                                                RECEIVER_OVERRUN, 0));
         }
     }
 }
@@ -376,7 +379,7 @@ int main(void) {
         return 1;
     }
     for (unsigned lead = 0; lead < LEADS; lead++)
-        if (!is_done(receiver_power_up_checked(boards[lead].receiver, RECEIVER_LENGTH)))
+        if (!done_or_told(receiver_power_up_checked(boards[lead].receiver, RECEIVER_LENGTH)))
             return 1;
     /* Here no time passes. A post waits for its tenth of a second in each turn, and a timer beside
      * this loop cuts off when a tick is late. */
@@ -404,6 +407,6 @@ int main(void) {
     number = post_tick(state, sizeof state, NULL, sizeof input, output, sizeof output);
     show_refusal(LAST_TICK + 1, number, boards);
     printf("tick %3u  [a NULL for a receiver]\n", LAST_TICK + 1);
-    bool is_taken = is_done(receiver_power_up_checked(NULL, RECEIVER_LENGTH));
+    bool is_taken = done_or_told(receiver_power_up_checked(NULL, RECEIVER_LENGTH));
     return number == POST_REFUSED_INPUT_LENGTH && !is_taken ? 0 : 1;
 }

@@ -9,9 +9,11 @@
  *
  * A receiver is one buffer of 93 bytes: the 92 registers in the chip's order (status, overrun,
  * interrupt mask, acknowledge, eight mailboxes of 11 bytes) and then the turn, which says the
- * mailbox that is filled next. Call receiver_power_up() once and receiver_arrive() for each frame
- * that comes in; before a tick of the post, while RECEIVER_STATUS does not read 0, let
- * receiver_drain() write into the next frame record of the tick's input. examples/host.c does so.
+ * mailbox that is filled next. Call receiver_power_up_checked() once and receiver_arrive_checked()
+ * for each frame that comes in. Before a tick of the post, at most POST_FRAME_RECORDS times and
+ * while RECEIVER_STATUS does not read 0, let receiver_drain_checked() write into the next frame
+ * record of the lead's input, and put their number into POST_INPUT_FRAME_COUNT. examples/host.c
+ * does so.
  *
  * What the chip does is said by request 2026-02 of document 02. Registers, mailboxes and bytes
  * count from 0, bits from 0 as the lowest.
@@ -33,7 +35,7 @@
  *
  * What the calls need:
  * - Alignment: none. A buffer may begin at any address.
- * - Stack: 8 bytes, the return address; no call pushes anything or calls anything.
+ * - Stack: 8 bytes, the return address (seen in the archive: no call pushes or calls anything).
  * - Threads: the library has no memory of its own, so calls on different buffers may run at once.
  *   A host may keep several receivers, such as one a lead.
  * - Time: every call ends, and takes less than a tenth of a microsecond.
@@ -77,7 +79,8 @@ uint32_t receiver_write(uint8_t *receiver, size_t receiver_length, uint32_t numb
 /*
  * A frame arrives, RECEIVER_FRAME_LENGTH bytes (else RECEIVER_REFUSED_FRAME): it fills the turn's
  * mailbox, and the turn moves on. Where that mailbox is full, the frame is lost, overrun becomes 1
- * and the turn stays; that is no refusal. Nothing in the frame is judged.
+ * and the turn stays; that is no refusal. Nothing in the frame is judged: that it is laid out as a
+ * frame record of post.h matters to the tick alone.
  */
 uint32_t receiver_arrive(uint8_t *receiver, size_t receiver_length, const uint8_t *frame,
                          size_t frame_length);
@@ -86,7 +89,9 @@ uint32_t receiver_arrive(uint8_t *receiver, size_t receiver_length, const uint8_
  * Writes the frame held longest into frame, RECEIVER_FRAME_LENGTH bytes (else
  * RECEIVER_REFUSED_ROOM), and empties its mailbox. That is the first full one from the turn's
  * upward, round the ring. With none held nothing changes, frame neither, and RECEIVER_DONE is
- * returned all the same: whether one is held is what RECEIVER_STATUS tells before.
+ * returned all the same: whether one is held is what RECEIVER_STATUS tells before. From then on the
+ * frame is the host's: where the tick that it was fetched for is refused, it was not heard, and no
+ * register tells of it.
  */
 uint32_t receiver_drain(uint8_t *receiver, size_t receiver_length, uint8_t *frame,
                         size_t frame_length);
@@ -150,7 +155,8 @@ static inline uint32_t receiver_line_checked(const uint8_t *receiver, size_t rec
  * frames lost are newer than those held at the time: the last that the car said may be among them.
  * The host
  * 1. drains, as every further frame is lost until the turn's mailbox is empty;
- * 2. writes overrun, any value, so that the next loss shows;
+ * 2. writes overrun, any value, so that the next loss shows (arrivals kept out between reading and
+ *    writing it, or a loss between them is not told);
  * 3. tells the desk.
  * The tick needs no word of it. To the post a frame that was lost is one that was not sent, and a
  * lead that hears no H'102 for ten ticks stops (POST_REASON_CAR_SILENT). A host that finds it often

@@ -199,8 +199,6 @@ const ARRIVALS: &[Fact<Step>] = &[
     (HANDED_IN, "arrival leaves the byte of acknowledge, not 0", |step| step.is(Arrive) && step.filled().is_some()
         && !step.had(ACKNOWLEDGE, 0)),
     (HANDED_IN, "arrival brings a turn above 7 below 8", |step| step.is(Arrive) && step.filled().is_some() && step.turn_is_high()),
-    (HANDED_IN, "arrival with turn 255", |step| step.is(Arrive) && step.filled().is_some() && step.had(TURN, 255)),
-    (HANDED_IN, "arrival with turn 8", |step| step.is(Arrive) && step.filled().is_some() && step.had(TURN, MAILBOXES as u8)),
     (REACHED, "arrival of a frame of another length than the tick takes", |step| step.is(Arrive)
         && matches!(step.frame[..], [_, _, length, ..] if length != FRAME_LENGTH)),
     (SESSIONS, "arrival of a frame of zeros", |step| step.is(Arrive) && step.frame == [0; FRAME_BYTES]),
@@ -213,7 +211,6 @@ const ARRIVALS: &[Fact<Step>] = &[
     (HANDED_IN, "loss where overrun is above 1", |step| step.lost() && step.overrun_is_high()),
     (HANDED_IN, "loss where overrun is 255", |step| step.lost() && step.had(OVERRUN, 255)),
     (HANDED_IN, "loss with a turn above 7, which stays", |step| step.lost() && step.turn_is_high()),
-    (HANDED_IN, "loss with turn 8, which stays", |step| step.lost() && step.had(TURN, MAILBOXES as u8)),
     (HANDED_IN, "loss where the byte of acknowledge is not 0", |step| step.lost() && !step.had(ACKNOWLEDGE, 0)),
 ];
 
@@ -367,7 +364,6 @@ pub const EVERY: &[EveryFact] = &[
     (IN_HANDED_IN, PAIRS, "pairs of status and turn at a drain", |step| step.is(Drain).then(|| pair(step.status(), step.before[TURN]))),
     (IN_HANDED_IN, PAIRS, "pairs of status and mask at a line", |step| step.is(Line).then(|| pair(step.status(), step.before[MASK]))),
     (IN_HANDED_IN, PAIRS, "pairs of status and value at an acknowledge", |step| step.writes(ACKNOWLEDGE).then(|| pair(step.status(), step.value))),
-    (IN_HANDED_IN, BYTES, "turns at a loss", |step| step.lost().then_some(step.before[TURN].into())),
     (IN_HANDED_IN, BYTES, "bytes of status read", |step| step.reads(STATUS).then_some(step.before[STATUS].into())),
     (IN_HANDED_IN, BYTES, "bytes of overrun read", |step| step.reads(OVERRUN).then_some(step.before[OVERRUN].into())),
     (IN_HANDED_IN, BYTES, "bytes of the mask read", |step| step.reads(MASK).then_some(step.before[MASK].into())),

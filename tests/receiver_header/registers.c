@@ -27,7 +27,7 @@ static void try_places(void) {
     CHECK(RECEIVER_LENGTH, RECEIVER_TURN + 1);
 }
 
-/* The register holds the value when it is read, and another when the value is written. */
+/* The register holds the value when it is read, and its filling when the value is written. */
 static void try_register(unsigned filling, uint32_t number) {
     for (unsigned value = 0; value < 256; value++) {
         about("register", number);

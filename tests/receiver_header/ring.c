@@ -1,4 +1,4 @@
-/* Arrivals and drains, on bytes handed in and round the ring, at every address. */
+/* Arrivals and drains, on bytes handed in and round the ring, and at several addresses. */
 #include "trial.h"
 
 #include <string.h>

@@ -46,6 +46,5 @@ void try_wrappers(void);
 void try_refusals(void);
 void try_registers(void);
 void try_ring(void);
-void try_lists(void);
 
 #endif

@@ -1,17 +1,17 @@
 -- A status by its bits, as the code puts it together. Assumes nothing.
-use mathlib.Core.Bool.{Bool, true, false, not, _&&_, _||_, Bool·beq}
+use mathlib.Core.Bool.{Bool, not, _&&_, _||_, Bool·beq}
 use mathlib.Core.List.{[], _∷_, map}
-use mathlib.Core.Path.{_≡_, refl, sym, ap, _∙_}
+use mathlib.Core.Path.{_≡_, sym, ap, _∙_}
 use Prim.Native.Nat.{ℕ, _-_, _*_, _/_, _%_, _^_, _<_}
 use native.Mathlib.Omega.{arith}
 use lib.Bits.{bitAnd, bitOr, and-shr, and-mod, and-lt}
-use lib.Dec.{T, eqb, eqb→eq}
+use lib.Dec.{eqb, eqb→eq}
 use Rattle.common.proofs.Bools.{upTo, upTo-at}
 use Rattle.little_endian.specs.Flags.{bitAt}
 use Rattle.little_endian.proofs.Bits.{byte-below}
 use Rattle.receiver.specs.Registers.{mailboxCount, statusOf}
 use Rattle.receiver.specs.Chip.{some}
-use Rattle.receiver.proofs.Computed.{computed}
+use Rattle.receiver.proofs.Computed.{computed, same-answers}
 
 pub status-byte : (test : ℕ → Bool) → statusOf test < 256
 unfolding statusOf
@@ -32,13 +32,6 @@ same-status p q e =
       e 7 (omega arith),
     )
 
--- the same answer
-is-same : (a b : Bool) → T (Bool·beq a b) → a ≡ b
-is-same true true t = refl
-is-same true false t = absurd t
-is-same false true t = absurd t
-is-same false false t = refl
-
 module _ (x m : ℕ) (byte : x < 256) (low : m < mailboxCount) where
   pub with-bit : bitOr x (1 * 2 ^ m % 256) ≡ statusOf (λ k. bitAt k x || eqb k m)
   unfolding statusOf
@@ -50,7 +43,7 @@ module _ (x m : ℕ) (byte : x < 256) (low : m < mailboxCount) where
       eqb→eq _ _ (computed (λ x m. eqb (bitAnd x (255 - 1 * 2 ^ m % 256)) (statusOf (λ k. bitAt k x && not (eqb k m)))) tt x m byte low)
 
   not-bit : bitAt m (255 - x) ≡ not (bitAt m x)
-  not-bit = is-same _ _ (computed (λ x m. Bool·beq (bitAt m (255 - x)) (not (bitAt m x))) tt x m byte low)
+  not-bit = same-answers _ _ (computed (λ x m. Bool·beq (bitAt m (255 - x)) (not (bitAt m x))) tt x m byte low)
 
 module _ (x : ℕ) (byte : x < 256) where
   bits-back : statusOf (λ k. bitAt k x) ≡ x
@@ -58,10 +51,10 @@ module _ (x : ℕ) (byte : x < 256) where
   bits-back = eqb→eq _ _ (upTo-at 255 (λ x. eqb (statusOf (λ k. bitAt k x)) x) tt x (omega arith))
 
   pub some-bit : some mailboxCount (λ k. bitAt k x) ≡ not (eqb x 0)
-  some-bit = is-same _ _ (upTo-at 255 (λ x. Bool·beq (some mailboxCount (λ k. bitAt k x)) (not (eqb x 0))) tt x (omega arith))
+  some-bit = same-answers _ _ (upTo-at 255 (λ x. Bool·beq (some mailboxCount (λ k. bitAt k x)) (not (eqb x 0))) tt x (omega arith))
 
 digits-and : (x y : ℕ) → x < 2 → y < 2 → eqb (bitAnd x y) 1 ≡ eqb x 1 && eqb y 1
-digits-and x y h g = is-same _ _ (upTo-at 1 (test x) (upTo-at 1 (λ x. upTo 1 (test x)) tt x (omega arith)) y (omega arith))
+digits-and x y h g = same-answers _ _ (upTo-at 1 (test x) (upTo-at 1 (λ x. upTo 1 (test x)) tt x (omega arith)) y (omega arith))
   where
     test : ℕ → ℕ → Bool
     test x y = Bool·beq (eqb (bitAnd x y) 1) (eqb x 1 && eqb y 1)

@@ -11,7 +11,7 @@ use lib.ListN.{length}
 use Rattle.common.specs.Tests.{same}
 use Rattle.little_endian.specs.Flags.{bitAt}
 use Rattle.receiver.specs.Registers.{mailboxCount, statusOf, fullFrom}
-use Rattle.receiver.proofs.Computed.{everywhere, computed, same-is}
+use Rattle.receiver.proofs.Computed.{everywhere, computed, same-lists}
 
 -- a test of each element
 abbrev pub each : (ℕ → Bool) → List ℕ → Bool
@@ -45,7 +45,7 @@ module _ (x m : ℕ) (byte : x < 256) (low : m < mailboxCount) where
     pub filled-last : filledOrder x m ≡ waits ++ (m ∷ [])
     unfolding statusOf fullFrom
     filled-last =
-        same-is (filledOrder x m) (waits ++ (m ∷ [])) (where-empty (λ x m. same (filledOrder x m) (fullFrom x mailboxCount m ++ (m ∷ []))) tt)
+        same-lists (filledOrder x m) (waits ++ (m ∷ [])) (where-empty (λ x m. same (filledOrder x m) (fullFrom x mailboxCount m ++ (m ∷ []))) tt)
 
     pub others-wait : T (each (isOther m) waits)
     unfolding fullFrom
@@ -74,22 +74,22 @@ module _ (x m : ℕ) (byte : x < 256) (low : m < mailboxCount) where
   pub met-above : (x / 2 ^ m ≡ 0 → ⊥) → m + trailingZeros 8 (x / 2 ^ m) ≡ headD waits mailboxCount
   met-above n = rw (ne-eqb (x / 2 ^ m) 0 n) at first-met
 
-  left : T (restLeft x m waits)
+  first-gone : T (restLeft x m waits)
   unfolding statusOf fullFrom
-  left = computed (λ x m. restLeft x m (fullFrom x mailboxCount m)) tt x m byte low
+  first-gone = computed (λ x m. restLeft x m (fullFrom x mailboxCount m)) tt x m byte low
 
   module _ (k : ℕ) (rest : List ℕ) (met : waits ≡ k ∷ rest) where
-    after : T (restLeft x m (k ∷ rest))
-    after = subst (λ (l : List ℕ). T (restLeft x m l)) met left
+    gone : T (restLeft x m (k ∷ rest))
+    gone = subst (λ (l : List ℕ). T (restLeft x m l)) met first-gone
 
     pub first-below : k < mailboxCount
-    first-below = ltb→lt k mailboxCount (and-l (ltb k mailboxCount) (same (emptiedOrder x m k) rest) after)
+    first-below = ltb→lt k mailboxCount (and-l (ltb k mailboxCount) (same (emptiedOrder x m k) rest) gone)
 
     pub rest-left : emptiedOrder x m k ≡ rest
-    rest-left = same-is (emptiedOrder x m k) rest (and-r (ltb k mailboxCount) (same (emptiedOrder x m k) rest) after)
+    rest-left = same-lists (emptiedOrder x m k) rest (and-r (ltb k mailboxCount) (same (emptiedOrder x m k) rest) gone)
 
   pub none-waits : waits ≡ [] → x ≡ 0
-  none-waits e = eqb→eq x 0 (subst (λ (l : List ℕ). T (restLeft x m l)) e left)
+  none-waits e = eqb→eq x 0 (subst (λ (l : List ℕ). T (restLeft x m l)) e first-gone)
 
   pub eight-at-most : length waits ≤ mailboxCount
   unfolding fullFrom
@@ -98,4 +98,4 @@ module _ (x m : ℕ) (byte : x < 256) (low : m < mailboxCount) where
 pub waits-of-0 : (m : ℕ) → m < mailboxCount → fullFrom 0 mailboxCount m ≡ []
 unfolding fullFrom
 waits-of-0 m low =
-    same-is (fullFrom 0 mailboxCount m) [] (computed (λ x m. not (eqb x 0) || same (fullFrom x mailboxCount m) []) tt 0 m (lit< tt) low)
+    same-lists (fullFrom 0 mailboxCount m) [] (computed (λ x m. not (eqb x 0) || same (fullFrom x mailboxCount m) []) tt 0 m (lit< tt) low)

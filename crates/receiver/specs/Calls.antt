@@ -21,8 +21,7 @@ pub data Call : Type 0 where
 abbrev pub isRegister : ℕ → Asked
 isRegister number = asks (leb number lastRegister) 30
 
--- The paper has no numbers for lengths; these are those that the post's tick has for them: 6 for what is kept between the calls, 7 for
--- what is handed in, 8 for what is only written.
+-- The request has no numbers for lengths: 6 for what is kept between the calls, 7 for what is handed in, 8 for what is only written.
 abbrev pub isReceiver : List ℕ → Asked
 isReceiver s = asks (eqb (length s) receiverSize) 6
 

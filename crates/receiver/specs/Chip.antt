@@ -17,7 +17,7 @@ poweredUp = replicate receiverSize 0
 unfoldable pub valueRead : List ℕ → ℕ → ℕ
 valueRead s number = cond (eqb number acknowledgeRegister) 0 (byteAt s number)
 
--- a frame in the turn's mailbox, which is full then, and the next one's turn
+-- a frame in the turn's mailbox, which is full then, and the next one's turn, a byte "below 8 once moved"
 unfoldable pub filled : List ℕ → List ℕ → List ℕ
 filled s frame =
     set (set (sets s (mailboxPlace (turn s)) frame) statusRegister (statusOf (λ k. full s k || eqb k (turn s))))
@@ -41,8 +41,8 @@ written s number value =
 
 -- what comes of the first of a list, and what there is without one
 abbrev pub byFirst : {A : Type 0} → List ℕ → A → (ℕ → A) → A
-byFirst [] none some = none
-byFirst (k ∷ rest) none some = some k
+byFirst [] otherwise made = otherwise
+byFirst (k ∷ rest) otherwise made = made k
 
 -- "A drain hands the tick the frame held longest and empties its mailbox; with none held it does nothing."
 unfoldable pub drained : List ℕ → List ℕ

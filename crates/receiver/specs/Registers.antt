@@ -72,8 +72,8 @@ fullFrom byte (suc n) k =
     let here : ℕ = k % mailboxCount in
     cond (bitAt here byte) (here ∷ fullFrom byte n (suc k)) (fullFrom byte n (suc k))
 
--- The full mailboxes, that of "the frame held longest" first: "used in turn", so the turn's mailbox was filled before all others where
--- it is full, and the one before it after all others.
+-- The full mailboxes, that of "the frame held longest" first. They are "used in turn", so in every list from power-up the turn's, where it
+-- is full, was filled before all others, and the one before it after them; of bytes handed in this is the rule too.
 unfoldable pub waiting : List ℕ → List ℕ
 waiting s = fullFrom (status s) mailboxCount (turn s)
 

@@ -54,7 +54,7 @@ pub(crate) fn write(receiver: &mut [u8], number: u32, value: u8)
 }
 
 // A frame by value. Copied from slice to slice it would go byte by byte, as they might overlap for all that the compiler knows.
-fn frame_at(s: &[u8], at: usize) -> [u8; 11]
+fn frame_at(s: &[u8], at: usize) -> [u8; FRAME_SIZE]
     requires { ⌜ at + frameSize ≤ length (now s) ⌝ }
     ensures { λ r. ⌜ r ≡ take frameSize (drop at (now (s .entry))) ⌝ }
 {

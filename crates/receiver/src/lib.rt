@@ -1,5 +1,5 @@
 // The receive chip of the new board: registers as bytes, eight mailboxes used in turn, and the calls of the C host. Document 02, 2026-02.
-// It knows frames as 11 bytes. Rests on the promises of `bytes`.
+// It knows frames as 11 bytes. Rests on the promises of `bytes`, `little_endian` and `common`.
 mod chip;
 mod names;
 mod places;
@@ -97,16 +97,16 @@ pub extern "C" fn receiver_drain(receiver: &mut [u8], frame: &mut [u8]) -> u32
 
 // Tells the interrupt line: 1 where it is up, else 0.
 #[no_mangle]
-pub extern "C" fn receiver_line(receiver: &[u8], line: &mut [u8]) -> u32
-    ensures { λ r. ⌜ _≡_ {A = Answer} (record { number = r; receiver = now (receiver .entry); lent = now (line .exit) })
-        (answer (now (receiver .entry)) (Rattle.receiver.specs.Calls.line (now (line .entry)))) ⌝ }
+pub extern "C" fn receiver_line(receiver: &[u8], level: &mut [u8]) -> u32
+    ensures { λ r. ⌜ _≡_ {A = Answer} (record { number = r; receiver = now (receiver .entry); lent = now (level .exit) })
+        (answer (now (receiver .entry)) (line (now (level .entry)))) ⌝ }
 {
     if receiver.len() != RECEIVER_SIZE {
         return Refusal::RECEIVER;
     }
-    if line.len() != 1 {
+    if level.len() != 1 {
         return Refusal::ROOM;
     }
-    line[0] = chip::level(receiver);
+    level[0] = chip::level(receiver);
     Refusal::NONE
 }

@@ -36,7 +36,7 @@ pub(crate) fn without(status: u8, emptied: u8) -> u8
 }
 
 // The full mailbox that is met first from the turn's upward, round the ring: the turn's own, or the lowest of those above it, or else the
-// lowest of all. 8 where none is full. The turn's own is asked first, as the processor then goes on with it before the bits are counted.
+// lowest of all. 8 where none is full. The turn's own is asked first: in a full ring the processor then goes on with it before bits are counted.
 pub(crate) fn longest_held(status: u8, turn: u8) -> u8
     requires { ⌜ turn < mailboxCount ⌝ }
     ensures { λ r. ⌜ r ≡ headD (fullFrom status mailboxCount turn) mailboxCount ⌝ }

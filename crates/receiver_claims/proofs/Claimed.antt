@@ -17,33 +17,26 @@ use Rattle.little_endian.specs.Flags.{bitAt, bitValue}
 use Rattle.receiver.specs.Registers.{statusRegister, overrunRegister, maskRegister, acknowledgeRegister, mailboxCount, frameSize, turnPlace, status, overrun, mask, mailbox, turn, full, fullFrom, waiting, held}
 use Rattle.receiver.specs.Chip.{poweredUp, filled, emptied, byFirst, drained, isUp, some}
 use Rattle.receiver.specs.Calls.{Call, powerUp, read, write, arrive, drain, line, answer, receiverAfter, lentAfter}
-use Rattle.receiver_claims.specs.Lists.{after, gathered, throughout, arrival, handedOn, losesNone, spares, bringsNone}
+use Rattle.receiver_claims.specs.Lists.{after, gathered, throughout, arrival, handedOn, losesNone, spares, leavesMailboxes}
 use Rattle.receiver_claims.specs.Claims.{IsReceiver, OnlyHandsOn, InOrderFromAny, InOrder, HeldInTurn, StatusTells, LineExact, BytesKept, TurnBelow, LostExactly, OverrunTells}
 use Rattle.receiver.proofs.Order.{eight-at-most}
-use Rattle.receiver_claims.proofs.Held.{mailbox-stays, turn-stays, held-stays, filled-overrun, filled-turn, held-filled, held-left}
-use Rattle.receiver_claims.proofs.Left.{Carried, answered, carried, receives, lengths-right, arrives, drains, written-leaves, arrived-leaves, drained-leaves}
+use Rattle.receiver_claims.proofs.Held.{mailbox-stays, turn-stays, held-stays, filled-overrun, filled-turn, filled-apart, held-filled, held-left}
+use Rattle.receiver_claims.proofs.Left.{Carried, answered, carried, receives, lengths-right, arrival-carried, drain-carried, written-leaves, arrived-leaves, drained-leaves}
 use Rattle.receiver_claims.proofs.OneCall.{fresh-receiver, stays-receiver, status-says, in-order-once}
 
-in-order-after :
-    (calls : List Call) (s : List ℕ)
-    → IsReceiver s
-    → OnlyHandsOn s calls
-    → gathered handedOn s calls ++ held (after s calls) ≡ held s ++ gathered arrival s calls
-in-order-after [] s sound only = sym (append-nil (held s))
-in-order-after (call ∷ calls) s sound only =
+pub in-order-from-any : InOrderFromAny
+in-order-from-any s sound [] only = sym (append-nil (held s))
+in-order-from-any s sound (call ∷ calls) only =
     let r = answer s call .receiver in
     let kept = throughout losesNone r calls in
     let spared = throughout (spares acknowledgeRegister) r calls in
     let later : OnlyHandsOn r calls = (and-r (losesNone s call) kept (only .0), and-r (spares acknowledgeRegister s call) spared (only .1)) in
     append-assoc (handedOn s call) (gathered handedOn r calls) (held (after r calls))
-    ∙ ap (λ l. handedOn s call ++ l) (in-order-after calls r (stays-receiver s sound call) later)
+    ∙ ap (λ l. handedOn s call ++ l) (in-order-from-any r (stays-receiver s sound call) calls later)
     ∙ sym (append-assoc (handedOn s call) (held r) (gathered arrival r calls))
     ∙ ap (λ l. l ++ gathered arrival r calls)
     (in-order-once s sound call (and-l (losesNone s call) kept (only .0)) (and-l (spares acknowledgeRegister s call) spared (only .1)))
     ∙ append-assoc (held s) (arrival s call) (gathered arrival r calls)
-
-pub in-order-from-any : InOrderFromAny
-in-order-from-any s sound calls only = in-order-after calls s sound only
 
 started : (buffer : List ℕ) → answer buffer powerUp .number ≡ 0 → answer buffer powerUp .receiver ≡ poweredUp
 unfolding receiverAfter
@@ -51,13 +44,13 @@ started buffer = answered buffer powerUp (λ a. a .number ≡ 0 → a .receiver 
 
 pub in-order : InOrder
 unfolding fullFrom waiting poweredUp
-in-order buffer done calls = rw (started buffer done) (in-order-after calls poweredUp fresh-receiver)
+in-order buffer done calls = rw (started buffer done) (in-order-from-any poweredUp fresh-receiver calls)
 
 -- n drains take the first n of what is held
 module _ (frame : List ℕ) (sized : length frame ≡ frameSize) where
   one-gone : (s : List ℕ) → IsReceiver s → held (answer s (drain frame) .receiver) ≡ drop 1 (held s)
   unfolding receiverAfter drained
-  one-gone s sound = rw (carried s (drain frame) (drains s frame (sound .long) sized)) (go (waiting s) refl)
+  one-gone s sound = rw (carried s (drain frame) (drain-carried s frame (sound .long) sized)) (go (waiting s) refl)
     where
       go : (w : List ℕ) → waiting s ≡ w → held (byFirst w s (λ k. emptied s (λ j. eqb j k))) ≡ drop 1 (held s)
       go [] e = rw e
@@ -75,12 +68,12 @@ module _ (frame : List ℕ) (sized : length frame ≡ frameSize) where
 pub held-in-turn : HeldInTurn
 unfolding losesNone spares arrival waiting
 held-in-turn s sound frame sized =
-    let drains : List Call = replicate mailboxCount (drain frame) in
+    let eight : List Call = replicate mailboxCount (drain frame) in
     let few : length (held s) ≤ mailboxCount = rw length-map (eight-at-most (status s) (turn s) (sound .byte) (omega arith)) in
-    let none : held (after s drains) ≡ [] = gone frame sized mailboxCount s sound ∙ drop-of-length-le (held s) few in
-    sym (append-nil (gathered handedOn s drains))
-    ∙ ap (λ l. gathered handedOn s drains ++ l) (sym none)
-    ∙ in-order-after drains s sound (tt, tt)
+    let none : held (after s eight) ≡ [] = gone frame sized mailboxCount s sound ∙ drop-of-length-le (held s) few in
+    sym (append-nil (gathered handedOn s eight))
+    ∙ ap (λ l. gathered handedOn s eight ++ l) (sym none)
+    ∙ in-order-from-any s sound eight (tt, tt)
     ∙ append-nil (held s)
 
 pub status-tells : StatusTells
@@ -131,7 +124,7 @@ bytes-kept s call none k = receives s call Kept refl (go call none)
     Kept : List ℕ → Type 0
     Kept r = mailbox r k ≡ mailbox s k
 
-    go : (call : Call) → T (bringsNone call) → Carried s call → Kept (receiverAfter s call)
+    go : (call : Call) → T (leavesMailboxes call) → Carried s call → Kept (receiverAfter s call)
     go powerUp n e = absurd n
     go (read number value) n e = refl
     go (write number value) n e =
@@ -169,19 +162,21 @@ turn-below s (call ∷ calls) =
 pub lost-exactly : LostExactly
 unfolding receiverAfter
 lost-exactly s sound frame sized = record {
-  lost = left (λ r. full s (turn s) ≡ true → r ≡ set s overrunRegister 1) (λ f e. refl) (λ f e. absurd (false≢true (sym f ∙ e)));
-  heldThen = left (λ r. full s (turn s) ≡ true → held r ≡ held s)
+  lost = leaves (λ r. full s (turn s) ≡ true → r ≡ set s overrunRegister 1) (λ f e. refl) (λ f e. absurd (false≢true (sym f ∙ e)));
+  heldStays = leaves (λ r. full s (turn s) ≡ true → held r ≡ held s)
       (λ f e. held-stays s overrunRegister 1 (omega arith) (omega arith)) (λ f e. absurd (false≢true (sym f ∙ e)));
-  kept = left (λ r. full s (turn s) ≡ false → held r ≡ held s ++ (frame ∷ []))
+  kept = leaves (λ r. full s (turn s) ≡ false → held r ≡ held s ++ (frame ∷ []))
       (λ f e. absurd (true≢false (sym f ∙ e))) (λ f e. held-filled s frame (sound .long) sized (sound .byte) f);
+  others = λ k low apart. leaves (λ r. mailbox r k ≡ mailbox s k) (λ f. mailbox-stays s overrunRegister 1 (omega arith) k)
+      (λ f. filled-apart s frame (sound .long) sized k low apart);
 }
   where
-    left :
+    leaves :
         (P : List ℕ → Type 0)
         → (full s (turn s) ≡ true → P (set s overrunRegister 1))
         → (full s (turn s) ≡ false → P (filled s frame))
         → P (answer s (arrive frame) .receiver)
-    left P loses keeps = rw (carried s (arrive frame) (arrives s frame (sound .long) sized)) (arrived-leaves P s frame loses keeps)
+    leaves P loses keeps = rw (carried s (arrive frame) (arrival-carried s frame (sound .long) sized)) (arrived-leaves P s frame loses keeps)
 
 -- overrun after one call that does not write it
 overrun-once : (s : List ℕ) (call : Call) → T (spares overrunRegister s call) → overrun (answer s call .receiver) ≡ cond (losesNone s call) (overrun s) 1

@@ -12,7 +12,7 @@ use lib.ListN.{length, set, length-set}
 use lib.Seq.{sets, length-sets, getD-set-same, getD-set-other}
 use Rattle.common.proofs.Bools.{holds}
 use Rattle.little_endian.specs.Numbers.{byteAt}
-use Rattle.receiver.specs.Registers.{statusRegister, firstMailbox, mailboxCount, frameSize, turnPlace, receiverSize, status, overrun, mailboxPlace, mailbox, turn, full, statusOf, fullFrom, waiting, held}
+use Rattle.receiver.specs.Registers.{statusRegister, overrunRegister, firstMailbox, mailboxCount, frameSize, turnPlace, receiverSize, status, overrun, mailboxPlace, mailbox, turn, full, statusOf, fullFrom, waiting, held}
 use Rattle.receiver.specs.Chip.{filled, emptied}
 use Rattle.receiver.proofs.Order.{each, isOther, filled-last, others-wait, rest-left}
 use Rattle.receiver_claims.proofs.Stores.{part-set, part-sets, part-put, byte-before}
@@ -72,9 +72,9 @@ module _ (s frame : List ℕ) (long : length s ≡ receiverSize) (sized : length
   pub filled-overrun : overrun (filled s frame) ≡ overrun s
   unfolding filled
   filled-overrun =
-      getD-set-other (set put statusRegister byte) turnPlace 1 ((t + 1) % mailboxCount) 0 (λ e. omega arith)
-      ∙ getD-set-other put statusRegister 1 byte 0 (λ e. omega arith)
-      ∙ byte-before frame s (mailboxPlace t) 1 (omega arith)
+      getD-set-other (set put statusRegister byte) turnPlace overrunRegister ((t + 1) % mailboxCount) 0 (λ e. omega arith)
+      ∙ getD-set-other put statusRegister overrunRegister byte 0 (λ e. omega arith)
+      ∙ byte-before frame s (mailboxPlace t) overrunRegister (omega arith)
 
   filled-mailbox : (k : ℕ) → k < mailboxCount → mailbox (filled s frame) k ≡ mailbox put k
   unfolding filled
@@ -82,15 +82,17 @@ module _ (s frame : List ℕ) (long : length s ≡ receiverSize) (sized : length
       part-set (mailboxPlace k) frameSize (set put statusRegister byte) turnPlace ((t + 1) % mailboxCount) (inr (omega arith))
       ∙ mailbox-stays put statusRegister byte (omega arith) k
 
+  pub filled-apart : (k : ℕ) → k < mailboxCount → (k ≡ turn s → ⊥) → mailbox (filled s frame) k ≡ mailbox s k
+  filled-apart k low apart = filled-mailbox k low ∙ part-sets (mailboxPlace k) frameSize frame s (mailboxPlace t) (go (ltb k t) refl)
+    where
+      go : (b : Bool) → ltb k t ≡ b → (mailboxPlace t + length frame ≤ mailboxPlace k) ⊎ (mailboxPlace k + frameSize ≤ mailboxPlace t)
+      go true e = let l : k < t = ltb-true k t e in inr (omega arith)
+      go false e = let l : t ≤ k = ltb-false k t e in inl (omega arith)
+
   filled-other : (k : ℕ) → T (isOther t k) → mailbox (filled s frame) k ≡ mailbox s k
   filled-other k other =
-      let low : k < mailboxCount = ltb→lt k mailboxCount (and-l (ltb k mailboxCount) (not (eqb k t)) other) in
-      let apart : k ≡ t → ⊥ = λ e. T-not (eqb k t) (and-r (ltb k mailboxCount) (not (eqb k t)) other) (holds (eq-eqb k t e)) in
-      filled-mailbox k low ∙ part-sets (mailboxPlace k) frameSize frame s (mailboxPlace t) (go apart (ltb k t) refl)
-    where
-      go : (k ≡ t → ⊥) → (b : Bool) → ltb k t ≡ b → (mailboxPlace t + length frame ≤ mailboxPlace k) ⊎ (mailboxPlace k + frameSize ≤ mailboxPlace t)
-      go apart true e = let l : k < t = ltb-true k t e in inr (omega arith)
-      go apart false e = let l : t ≤ k = ltb-false k t e in inl (omega arith)
+      filled-apart k (ltb→lt k mailboxCount (and-l (ltb k mailboxCount) (not (eqb k t)) other))
+      (λ e. T-not (eqb k t) (and-r (ltb k mailboxCount) (not (eqb k t)) other) (holds (eq-eqb k t e)))
 
   filled-here : mailbox (filled s frame) t ≡ frame
   filled-here = filled-mailbox t (omega arith) ∙ part-put s frame (mailboxPlace t) frameSize sized (omega arith)
@@ -110,15 +112,15 @@ module _ (s frame : List ℕ) (long : length s ≡ receiverSize) (sized : length
 
 -- the frame held longest gone, from mailbox k
 module _ (s : List ℕ) (long : length s ≡ receiverSize) (small : status s < 256) (k : ℕ) (rest : List ℕ) (met : waiting s ≡ k ∷ rest) where
-  abbrev left : ℕ
-  left = statusOf (λ j. full s j && not (eqb j k))
+  abbrev less : ℕ
+  less = statusOf (λ j. full s j && not (eqb j k))
 
   pub held-left : held (emptied s (λ j. eqb j k)) ≡ map (mailbox s) rest
   unfolding waiting
   held-left =
       rw (
-        getD-set-same s statusRegister left 0 (omega arith),
-        turn-stays s statusRegister left (omega arith),
+        getD-set-same s statusRegister less 0 (omega arith),
+        turn-stays s statusRegister less (omega arith),
         rest-left (status s) (turn s) small (omega arith) k rest met,
       )
-      (alike (mailbox (emptied s (λ j. eqb j k))) (mailbox s) (mailbox-stays s statusRegister left (omega arith)) rest)
+      (alike (mailbox (emptied s (λ j. eqb j k))) (mailbox s) (mailbox-stays s statusRegister less (omega arith)) rest)

@@ -45,13 +45,13 @@ lengths-right s frame e =
 
 -- and the other way, for a drain too
 module _ (s frame : List ℕ) (long : length s ≡ receiverSize) (sized : length frame ≡ frameSize) where
-  pub arrives : Carried s (arrive frame)
+  pub arrival-carried : Carried s (arrive frame)
   unfolding rows
-  arrives = rw (eq-eqb (length s) receiverSize long, eq-eqb (length frame) frameSize sized)
+  arrival-carried = rw (eq-eqb (length s) receiverSize long, eq-eqb (length frame) frameSize sized)
 
-  pub drains : Carried s (drain frame)
+  pub drain-carried : Carried s (drain frame)
   unfolding rows
-  drains = rw (eq-eqb (length s) receiverSize long, eq-eqb (length frame) frameSize sized)
+  drain-carried = rw (eq-eqb (length s) receiverSize long, eq-eqb (length frame) frameSize sized)
 
 -- the case of a choice, with the test's answer known
 chosen : (P : List ℕ → Type 0) (b : Bool) {x y : List ℕ} → (b ≡ true → P x) → (b ≡ false → P y) → P (cond b x y)

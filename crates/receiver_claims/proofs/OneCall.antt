@@ -60,18 +60,18 @@ module _ (s : List ℕ) (sound : IsReceiver s) where
       go (drain frame) e = drained-leaves IsReceiver s sound (λ k. some-emptied (λ j. eqb j k))
       go (line level) e = sound
 
-  turn-below : turn s < mailboxCount
-  turn-below = omega arith
+  turn-low : turn s < mailboxCount
+  turn-low = omega arith
 
   none-waiting : status s ≡ 0 → waiting s ≡ []
   unfolding waiting
-  none-waiting e = rw (e, waits-of-0 (turn s) turn-below)
+  none-waiting e = rw (e, waits-of-0 (turn s) turn-low)
 
   pub status-says : Told s
   unfolding waiting
   status-says = record {
-    none = λ e. ap (map (mailbox s)) (none-waiting e);
-    one = λ e. none-waits (status s) (turn s) (sound .byte) turn-below (go (fullFrom (status s) mailboxCount (turn s)) e);
+    whenZero = λ e. ap (map (mailbox s)) (none-waiting e);
+    onlyThen = λ e. none-waits (status s) (turn s) (sound .byte) turn-low (go (fullFrom (status s) mailboxCount (turn s)) e);
   }
     where
       go : (w : List ℕ) → map (mailbox s) w ≡ [] → w ≡ []
@@ -87,7 +87,7 @@ module _ (s : List ℕ) (sound : IsReceiver s) where
           (w : List ℕ)
           → waiting s ≡ w
           → cond (not (eqb (status s) 0)) (byFirst w frame (mailbox s) ∷ []) [] ++ held (byFirst w s (λ k. emptied s (λ j. eqb j k))) ≡ held s
-      go [] e = rw (eq-eqb (status s) 0 (status-says .one (ap (map (mailbox s)) e)))
+      go [] e = rw (eq-eqb (status s) 0 (status-says .onlyThen (ap (map (mailbox s)) e)))
       go (k ∷ rest) e =
           rw (ne-eqb (status s) 0 (λ z. cons≢nil (sym e ∙ none-waiting z)), held-left s (sound .long) (sound .byte) k rest e, e)
 

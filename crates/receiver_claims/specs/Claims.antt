@@ -10,14 +10,15 @@ use Rattle.little_endian.specs.Numbers.{byteAt}
 use Rattle.little_endian.specs.Flags.{bitAt}
 use Rattle.receiver.specs.Registers.{overrunRegister, acknowledgeRegister, mailboxCount, frameSize, turnPlace, receiverSize, status, overrun, mask, mailbox, turn, full, held}
 use Rattle.receiver.specs.Calls.{Call, powerUp, arrive, drain, line, answer}
-use Rattle.receiver_claims.specs.Lists.{after, gathered, throughout, arrival, handedOn, losesNone, spares, bringsNone}
+use Rattle.receiver_claims.specs.Lists.{after, gathered, throughout, arrival, handedOn, losesNone, spares, leavesMailboxes}
 
 -- A receiver: 93 bytes. That they are bytes is used of the status alone.
 pub record IsReceiver (s : List ℕ) : Type 0 where
   pub long : length s ≡ receiverSize
   pub byte : status s < 256
 
--- The calls that stand between arrivals and drains may be any but writes to acknowledge and power-ups, refused ones too.
+-- "in which no frame is lost"; the calls that stand between arrivals and drains may be any but writes to acknowledge and power-ups, refused
+-- ones too.
 abbrev pub OnlyHandsOn : List ℕ → List Call → Type 0
 OnlyHandsOn s calls = T (throughout losesNone s calls) × T (throughout (spares acknowledgeRegister) s calls)
 
@@ -52,8 +53,8 @@ HeldInTurn =
 
 -- Whether a frame is held is what the status tells.
 pub record Told (s : List ℕ) : Type 0 where
-  pub none : status s ≡ 0 → held s ≡ []
-  pub one : held s ≡ [] → status s ≡ 0
+  pub whenZero : status s ≡ 0 → held s ≡ []
+  pub onlyThen : held s ≡ [] → status s ≡ 0
 
 abbrev pub StatusTells : Type 0
 StatusTells = (s : List ℕ) → IsReceiver s → Told s
@@ -74,7 +75,7 @@ LineExact = (s level : List ℕ) → answer s (line level) .number ≡ 0 → Lin
 
 -- "an emptied mailbox keeps its bytes": every call but an arrival and a power-up leaves the bytes of every mailbox.
 abbrev pub BytesKept : Type 0
-BytesKept = (s : List ℕ) (call : Call) → T (bringsNone call) → (k : ℕ) → mailbox (answer s call .receiver) k ≡ mailbox s k
+BytesKept = (s : List ℕ) (call : Call) → T (leavesMailboxes call) → (k : ℕ) → mailbox (answer s call .receiver) k ≡ mailbox s k
 
 -- the turn is "below 8 once moved": after any list it is the byte of before, or below 8
 abbrev pub TurnBelow : Type 0
@@ -83,11 +84,12 @@ TurnBelow =
     → (byteAt (after s calls) turnPlace ≡ byteAt s turnPlace) ⊎ (byteAt (after s calls) turnPlace < mailboxCount)
 
 -- "If that one is full, the frame is lost, overrun becomes 1 and the turn does not move": nothing but overrun changes, and what is held
--- stays. Otherwise the frame is held, behind the others.
+-- stays. Otherwise the frame is held, behind the others, and full or empty these keep their bytes.
 pub record Arrived (s frame : List ℕ) : Type 0 where
   pub lost : full s (turn s) ≡ true → answer s (arrive frame) .receiver ≡ set s overrunRegister 1
-  pub heldThen : full s (turn s) ≡ true → held (answer s (arrive frame) .receiver) ≡ held s
+  pub heldStays : full s (turn s) ≡ true → held (answer s (arrive frame) .receiver) ≡ held s
   pub kept : full s (turn s) ≡ false → held (answer s (arrive frame) .receiver) ≡ held s ++ (frame ∷ [])
+  pub others : (k : ℕ) → k < mailboxCount → (k ≡ turn s → ⊥) → mailbox (answer s (arrive frame) .receiver) k ≡ mailbox s k
 
 abbrev pub LostExactly : Type 0
 LostExactly = (s : List ℕ) → IsReceiver s → (frame : List ℕ) → length frame ≡ frameSize → Arrived s frame

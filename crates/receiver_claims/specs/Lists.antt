@@ -11,7 +11,7 @@ abbrev pub after : List ℕ → List Call → List ℕ
 after s [] = s
 after s (call ∷ calls) = after (answer s call .receiver) calls
 
--- the frames that the calls bring, one after the other
+-- the frames that each call gives, one after the other
 abbrev pub gathered : (List ℕ → Call → List (List ℕ)) → List ℕ → List Call → List (List ℕ)
 gathered frames s [] = []
 gathered frames s (call ∷ calls) = frames s call ++ gathered frames (answer s call .receiver) calls
@@ -52,7 +52,7 @@ losesNone s (arrive frame) = not (isDone s (arrive frame) && full s (turn s))
 losesNone s (drain frame) = true
 losesNone s (line level) = true
 
--- the call does not write this register: neither a write to it nor a power-up
+-- the call is neither a write to this register nor a power-up
 unfoldable pub spares : ℕ → List ℕ → Call → Bool
 spares register s powerUp = false
 spares register s (read number value) = true
@@ -61,11 +61,11 @@ spares register s (arrive frame) = true
 spares register s (drain frame) = true
 spares register s (line level) = true
 
--- the call brings no bytes for a mailbox: neither an arrival nor a power-up
-abbrev pub bringsNone : Call → Bool
-bringsNone powerUp = false
-bringsNone (read number value) = true
-bringsNone (write number value) = true
-bringsNone (arrive frame) = false
-bringsNone (drain frame) = true
-bringsNone (line level) = true
+-- the call is neither an arrival nor a power-up
+abbrev pub leavesMailboxes : Call → Bool
+leavesMailboxes powerUp = false
+leavesMailboxes (read number value) = true
+leavesMailboxes (write number value) = true
+leavesMailboxes (arrive frame) = false
+leavesMailboxes (drain frame) = true
+leavesMailboxes (line level) = true

@@ -1,4 +1,4 @@
--- Two lists of calls in which something happens. Definitions only.
+-- Lists of calls in which something happens, and a receiver that no list comes to. Definitions only.
 use mathlib.Core.List.{List, [], _∷_, _++_, map}
 use Prim.Native.Nat.{ℕ}
 use lib.ListN.{replicate}
@@ -28,3 +28,14 @@ round =
 -- The ninth is lost; once one is drained, the tenth is kept.
 abbrev pub overfull : List Call
 overfull = arrivals (1 ∷ 2 ∷ 3 ∷ 4 ∷ 5 ∷ 6 ∷ 7 ∷ 8 ∷ 9 ∷ []) ++ drains 1 ++ arrivals (10 ∷ [])
+
+-- Handed in: mailboxes 1 and 2 full, overrun 7, bit 2 in the mask, something in acknowledge, and a turn that counts as 0.
+abbrev pub handedIn : List ℕ
+handedIn =
+    (6 ∷ 7 ∷ 4 ∷ 9 ∷ [])
+    ++ frame 20 ++ frame 21 ++ frame 22 ++ frame 23 ++ frame 24 ++ frame 25 ++ frame 26 ++ frame 27
+    ++ (200 ∷ [])
+
+-- one more arrives, and one is drained
+abbrev pub oneMore : List Call
+oneMore = arrivals (30 ∷ []) ++ drains 1

@@ -10,7 +10,7 @@ type Frame = [u8; FRAME_BYTES];
 
 const FILL: u8 = 0xA5;
 
-/// Register numbers that are not there. Cut to 8 or 16 bits, most of them would be one that is.
+/// Register numbers that are not there. Cut to 8 or 16 bits, half of them would be one that is.
 const NOT_THERE: [u32; 16] = [
     92, 93, 127, 128, 255, 256, 257, 258, 259, 347, 65_535, 65_536, 65_538, 1 << 31, u32::MAX - 1, u32::MAX,
 ];
@@ -105,7 +105,7 @@ fn at_power_up() {
     assert_eq!(chip.arrive(frame(7)), chip.holding(0, frame(7)).byte(STATUS, 0x01).byte(TURN, 1));
 }
 
-/// Point 11: acknowledge reads 0 whatever its byte holds. All other registers read as their bytes.
+/// Acknowledge reads 0 whatever its byte holds. All other registers read as their bytes.
 #[test]
 fn registers_read_as_their_bytes_but_for_acknowledge() {
     let chip = Chip::handed_in();
@@ -143,8 +143,8 @@ fn arrivals_fill_the_mailboxes_in_turn() {
     }
 }
 
-/// "If that one is full, the frame is lost, overrun becomes 1 and the turn does not move." Point 13:
-/// exactly 1, whatever it was.
+/// "If that one is full, the frame is lost, overrun becomes 1 and the turn does not move."
+/// Exactly 1, whatever it was.
 #[test]
 fn a_frame_is_lost_where_the_next_mailbox_is_full() {
     let full = arrived(8);
@@ -157,7 +157,7 @@ fn a_frame_is_lost_where_the_next_mailbox_is_full() {
     }
 }
 
-/// Point 17: emptied mailboxes further on don't help.
+/// Emptied mailboxes further on don't help.
 #[test]
 fn a_frame_is_lost_though_others_are_empty() {
     let full = arrived(8);
@@ -178,7 +178,7 @@ fn a_frame_is_lost_though_others_are_empty() {
     assert_eq!(chip.arrive(frame(8)), chip.byte(OVERRUN, 1));
 }
 
-/// "A byte read modulo 8, below 8 once moved." Points 14 and 15, with every turn and every status.
+/// "A byte read modulo 8, below 8 once moved." With every turn and every status.
 #[test]
 fn any_turn_and_any_status() {
     for (turn, status) in (0..=255).flat_map(|turn| (0..=255).map(move |status| (turn, status))) {
@@ -192,7 +192,7 @@ fn any_turn_and_any_status() {
             chip.holding(next, frame(1)).byte(STATUS, status | 1 << next).byte(TURN, (turn % 8 + 1) % 8)
         };
         assert_eq!(chip.arrive(frame(1)), after, "turn {turn}, status {status}");
-        // Point 16: the first full one from the turn's upward. A drain leaves the turn as it is.
+        // The first full one from the turn's upward. A drain leaves the turn as it is.
         let after = if status == 0 {
             (chip, UNTOUCHED)
         } else {
@@ -210,7 +210,7 @@ fn any_turn_and_any_status() {
     }
 }
 
-/// Point 15: the turn goes on from where it is; it doesn't fall back to the first mailbox.
+/// The turn goes on from where it is; it doesn't fall back to the first mailbox.
 #[test]
 fn after_all_is_drained_the_turn_is_still_next() {
     for frames in 1..=8 {
@@ -228,7 +228,7 @@ fn after_all_is_drained_the_turn_is_still_next() {
     }
 }
 
-/// Point 20: neither identifier nor length byte nor data.
+/// Neither identifier nor length byte nor data.
 #[test]
 fn nothing_in_a_frame_is_judged() {
     let mut odd = vec![[0; FRAME_BYTES], [0xFF; FRAME_BYTES], [0x02, 0x01, 8, 0, 0, 0, 0, 0, 0, 0, 0]];
@@ -252,7 +252,7 @@ fn nothing_in_a_frame_is_judged() {
 // Writing
 
 /// "Writing a 1 bit to acknowledge empties that mailbox"; "an emptied mailbox keeps its bytes".
-/// Point 12: the byte of acknowledge itself never changes.
+/// The byte of acknowledge itself never changes.
 #[test]
 fn acknowledging() {
     for (status, value) in (0..=255).flat_map(|status| (0..=255).map(move |value| (status, value))) {
@@ -282,7 +282,7 @@ fn writing_the_mask() {
     }
 }
 
-/// "Any write to overrun makes it 0", a 1 too. Point 13: nothing else does.
+/// "Any write to overrun makes it 0", a 1 too. Nothing else does.
 #[test]
 fn overrun_stays_until_it_is_written() {
     for (overrun, value) in (0..=255).flat_map(|overrun| (0..=255).map(move |value| (overrun, value))) {
@@ -301,7 +301,7 @@ fn overrun_stays_until_it_is_written() {
     assert_eq!((full.read(1), full.arrive(frame(8)).read(1)), (0, 1));
 }
 
-/// "And other writes change nothing." Point 18: they are done all the same.
+/// "And other writes change nothing." They are done all the same.
 #[test]
 fn other_writes_change_nothing() {
     for chip in [Chip::powered_up(), Chip::handed_in(), arrived(5), arrived(9), Chip([0xFF; STATE_BYTES])] {
@@ -342,7 +342,7 @@ fn the_frame_held_longest() {
     assert_eq!(drained, chip.holding(3, frame(11)).byte(STATUS, 0xCE).byte(TURN, 4));
 }
 
-/// "With none held it does nothing." Point 21: the lent frame is left alone too.
+/// "With none held it does nothing." The lent frame is left alone too.
 #[test]
 fn a_drain_with_none_held() {
     for turn in 0..=255 {
@@ -356,7 +356,7 @@ fn a_drain_with_none_held() {
     assert_eq!((chip.read(0), chip.drain().1, chip.drain().0.read(0)), (0x01, [0; FRAME_BYTES], 0x00));
 }
 
-/// Point 21: a drain doesn't ask for the mask, nor for overrun.
+/// A drain doesn't ask for the mask, nor for overrun.
 #[test]
 fn a_drain_does_not_look_at_the_mask() {
     for byte in 0..=255 {
@@ -439,7 +439,7 @@ fn each_call_refuses_in_its_order() {
     refuses(|_, receiver, up| line(receiver, up), [6, 8], LINE_REFUSALS, 1);
 }
 
-/// Point 19: 30 for reads and writes alike, before anything, whatever is written.
+/// 30 for reads and writes alike, before anything, whatever is written.
 #[test]
 fn a_register_number_above_91() {
     for number in NOT_THERE {
@@ -592,7 +592,7 @@ impl Model {
     }
 }
 
-/// Point 16: also with acknowledges, lost frames and refused calls anywhere in the list.
+/// Also with acknowledges, lost frames and refused calls anywhere in the list.
 #[test]
 fn the_frame_held_longest_in_every_list() {
     let mut next = generator();
@@ -658,7 +658,7 @@ fn the_frame_held_longest_in_every_list() {
 // ---------------------------------------------------------------------------
 // The host between chip and tick
 
-/// Point 22: the host copies what a drain hands on into an input record, and the tick hears it there.
+/// The host copies what a drain hands on into an input record, and the tick hears it there.
 #[test]
 fn a_drained_frame_in_the_input_of_a_tick() {
     let hears = Case::new(5).hears(ENABLED);
@@ -672,7 +672,7 @@ fn a_drained_frame_in_the_input_of_a_tick() {
     assert_eq!((copied.state, copied.output), (direct.state, direct.output));
 }
 
-/// Point 22: the bench program has no lines for the chip.
+/// The bench program has no lines for the chip.
 #[test]
 fn the_bench_knows_nothing_of_it() {
     for line in ["power_up", "power-up", "read\t0", "write\t2\t255", "arrive\t0201080000000000000000", "drain", "line"] {

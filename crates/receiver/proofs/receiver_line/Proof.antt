@@ -19,8 +19,8 @@ returns-3 : tie.Need-returns-3
 unfolding callRules
 returns-3 c =
     let d = c .before in
-    let line = now (d .before .before .before .before .args .line) in
-    rw (eq-eqb _ _ (d .before .if1 .left), eq-eqb _ _ (d .if2 .left), one-byte line (c .level .result) (d .if2 .left), c .level .ensures)
+    let level = now (d .before .before .before .before .args .level) in
+    rw (eq-eqb _ _ (d .before .if1 .left), eq-eqb _ _ (d .if2 .left), one-byte level (c .level .result) (d .if2 .left), c .level .ensures)
 
 pub receiver-line-spec : {M : Type 1} → statement M
 receiver-line-spec = tie.close (tie.spec returns returns-2 (search needs) (search needs) (search needs) returns-3)

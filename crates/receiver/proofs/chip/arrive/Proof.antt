@@ -22,6 +22,7 @@ slice-write-receiver-3 c =
     turn-there s (now (f .args .frame)) (k .frame-at .result) (d .copy .last .1 .0) (turn s) (omega arith) (f .pre .0) (f .pre .1)
     (c .with-full .result) (k .frame-at .ensures) (d .copy .ensures .1)
 
+-- the search for it succeeds by itself, and not within the closing line
 same-length-2 : tie.Need-same-length-2
 same-length-2 c = search needs
 

@@ -2,6 +2,7 @@
 use borrow.Author.Needs.{needs}
 use denote.Ref.{now}
 use native.Mathlib.Omega.{arith}
+use Rattle.receiver.specs.Registers.{statusRegister}
 use Rattle.receiver.proofs.Coded.{copied-out, one-drained, none-drained}
 use Rattle.receiver.proofs.chip.drain.Statement.{statement}
 use Rattle.receiver.proofs.chip.drain.Tie as tie
@@ -24,7 +25,7 @@ returns-2 c =
     let k = c .before .before .before .before .before in
     let a = k .before .args in
     none-drained (now (a .receiver)) (now (a .frame)) (c .before .longest-held .result) (c .before .longest-held .ensures)
-    (k .slice-known .given 0 .fits) (omega arith)
+    (k .slice-known .given statusRegister .fits) (omega arith)
 
 pub drain-spec : {M : Type 1} → statement M
 drain-spec =
