@@ -53,8 +53,8 @@ module _ (s frame w p : List ℕ) (k : ℕ) (low : k < mailboxCount) (long : len
       let part : length (take room (drop at s)) ≡ frameSize = ap length (cut firstMailbox frameSize k at s refl) ∙ mailbox-length in
       let inside : at + length frame ≤ length s = omega arith in
       let size : at + frameSize ≡ at + length frame = omega arith in
-      rw (copied-all w (take room (drop at s)) p e (omega (arith, part, same)) ∙ is, add-sub-cancel-left at frameSize, drop-drop, size, ← append-assoc)
-      (sym (sets-eq frame s at inside))
+      let put : p ≡ frame = copied-all w (take room (drop at s)) p e (omega (arith, part, same)) ∙ is in
+      rw (put, add-sub-cancel-left at frameSize, drop-drop, size, ← append-assoc) (sym (sets-eq frame s at inside))
 
   -- and the turn is still there
   pub turn-there :

@@ -1,8 +1,8 @@
 -- Document 02, 2026-02: its claims. By one call, and induction on the list. Assumes nothing.
 use mathlib.Core.Bool.{Bool, true, false, cond, not, _&&_, _||_, or-true, true≢false, false≢true}
-use mathlib.Core.List.{List, [], _∷_, _++_, append-nil, append-assoc}
+use mathlib.Core.List.{List, [], _∷_, _++_, append-nil, append-assoc, Sublist, Sublist·refl, Sublist·trans, Sublist·append}
 use mathlib.Core.Logic.{_⊎_, inl, inr, ⊎-elim}
-use mathlib.Core.Path.{_≡_, refl, sym, ap, _∙_}
+use mathlib.Core.Path.{_≡_, refl, sym, ap, subst, _∙_}
 use Prim.Native.Nat.{ℕ, zero, suc, _≤_, _<_}
 use native.Mathlib.Nat.{le-of-suc-le-suc, eq-or-lt-of-le}
 use native.Mathlib.Omega.{arith}
@@ -18,10 +18,11 @@ use Rattle.receiver.specs.Registers.{statusRegister, overrunRegister, maskRegis
 use Rattle.receiver.specs.Chip.{poweredUp, filled, emptied, byFirst, drained, isUp, some}
 use Rattle.receiver.specs.Calls.{Call, powerUp, read, write, arrive, drain, line, answer, receiverAfter, lentAfter}
 use Rattle.receiver_claims.specs.Lists.{after, gathered, throughout, arrival, handedOn, losesNone, spares, leavesMailboxes}
-use Rattle.receiver_claims.specs.Claims.{IsReceiver, OnlyHandsOn, InOrderFromAny, InOrder, HeldInTurn, StatusTells, LineExact, BytesKept, TurnBelow, LostExactly, OverrunTells}
+use Rattle.receiver_claims.specs.Claims.{IsReceiver, OnlyHandsOn, InOrderFromAny, InOrder, NoneOvertakes, HeldInTurn, StatusTells, LineExact, BytesKept, TurnBelow, LostExactly, OverrunTells}
 use Rattle.receiver.proofs.Order.{eight-at-most}
 use Rattle.receiver_claims.proofs.Held.{mailbox-stays, turn-stays, held-stays, filled-overrun, filled-turn, filled-apart, held-filled, held-left}
 use Rattle.receiver_claims.proofs.Left.{Carried, answered, carried, receives, lengths-right, arrival-carried, drain-carried, written-leaves, arrived-leaves, drained-leaves}
+use Rattle.receiver_claims.proofs.Overtaking.{none-overtakes-once}
 use Rattle.receiver_claims.proofs.OneCall.{fresh-receiver, stays-receiver, status-says, in-order-once}
 
 pub in-order-from-any : InOrderFromAny
@@ -45,6 +46,19 @@ started buffer = answered buffer powerUp (λ a. a .number ≡ 0 → a .receiver 
 pub in-order : InOrder
 unfolding fullFrom waiting poweredUp
 in-order buffer done calls = rw (started buffer done) (in-order-from-any poweredUp fresh-receiver calls)
+
+pub none-overtakes : NoneOvertakes
+none-overtakes s sound [] = rw (append-nil (held s)) (Sublist·refl (held s))
+none-overtakes s sound (call ∷ calls) =
+    let r = answer s call .receiver in
+    let arrivals = gathered arrival r calls in
+    subst (λ l. Sublist l (held s ++ gathered arrival s (call ∷ calls)))
+    (sym (append-assoc (handedOn s call) (gathered handedOn r calls) (held (after r calls))))
+    (Sublist·trans
+    (Sublist·append (Sublist·refl (handedOn s call)) (none-overtakes r (stays-receiver s sound call) calls))
+    (subst (λ l. Sublist l (held s ++ gathered arrival s (call ∷ calls))) (append-assoc (handedOn s call) (held r) arrivals)
+    (subst (λ l. Sublist (handedOn s call ++ held r ++ arrivals) l) (append-assoc (held s) (arrival s call) arrivals)
+    (Sublist·append (none-overtakes-once s sound call) (Sublist·refl arrivals)))))
 
 -- n drains take the first n of what is held
 module _ (frame : List ℕ) (sized : length frame ≡ frameSize) where
@@ -134,7 +148,9 @@ bytes-kept s call none k = receives s call Kept refl (go call none)
     go (drain frame) n e = drained-leaves Kept s refl (λ j. mailbox-stays s statusRegister _ (omega arith) k)
     go (line level) n e = refl
 
-turn-once : (s : List ℕ) (call : Call) → (byteAt (answer s call .receiver) turnPlace ≡ byteAt s turnPlace) ⊎ (byteAt (answer s call .receiver) turnPlace < mailboxCount)
+turn-once :
+    (s : List ℕ) (call : Call)
+    → (byteAt (answer s call .receiver) turnPlace ≡ byteAt s turnPlace) ⊎ (byteAt (answer s call .receiver) turnPlace < mailboxCount)
 unfolding receiverAfter poweredUp
 turn-once s call = receives s call Low (inl refl) (go call)
   where
@@ -179,7 +195,10 @@ lost-exactly s sound frame sized = record {
     leaves P loses keeps = rw (carried s (arrive frame) (arrival-carried s frame (sound .long) sized)) (arrived-leaves P s frame loses keeps)
 
 -- overrun after one call that does not write it
-overrun-once : (s : List ℕ) (call : Call) → T (spares overrunRegister s call) → overrun (answer s call .receiver) ≡ cond (losesNone s call) (overrun s) 1
+overrun-once :
+    (s : List ℕ) (call : Call)
+    → T (spares overrunRegister s call)
+    → overrun (answer s call .receiver) ≡ cond (losesNone s call) (overrun s) 1
 unfolding spares losesNone receiverAfter
 overrun-once s powerUp spared = absurd spared
 overrun-once s (read number value) spared = receives s (read number value) (λ r. overrun r ≡ overrun s) refl (λ e. refl)

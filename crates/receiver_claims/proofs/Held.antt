@@ -18,7 +18,7 @@ use Rattle.receiver.proofs.Order.{each, isOther, filled-last, others-wait, rest
 use Rattle.receiver_claims.proofs.Stores.{part-set, part-sets, part-put, byte-before}
 
 -- mailboxes with the same bytes
-alike : (f g : ℕ → List ℕ) → ((k : ℕ) → f k ≡ g k) → (l : List ℕ) → map f l ≡ map g l
+pub alike : (f g : ℕ → List ℕ) → ((k : ℕ) → f k ≡ g k) → (l : List ℕ) → map f l ≡ map g l
 alike f g e [] = refl
 alike f g e (k ∷ l) = rw (e k, alike f g e l)
 

@@ -26,7 +26,8 @@ module _ (s : List ℕ) (call : Call) where
   unfolding answer
   answered P refused done =
       either-way (λ n. record { number = n; receiver = s; lent = lentTo call })
-      (record { number = 0; receiver = receiverAfter s call; lent = lentAfter s call }) P (refusalOf (rows s call)) (refused (refusalOf (rows s call))) done
+      (record { number = 0; receiver = receiverAfter s call; lent = lentAfter s call }) P (refusalOf (rows s call))
+      (refused (refusalOf (rows s call))) done
 
   pub carried : Carried → answer s call .receiver ≡ receiverAfter s call
   unfolding answer doneUnless

@@ -1,6 +1,6 @@
 -- Document 02, 2026-02: its claims. Statements only; proofs/Claimed.antt proves them.
 use mathlib.Core.Bool.{true, false, cond}
-use mathlib.Core.List.{List, [], _∷_, _++_}
+use mathlib.Core.List.{List, [], _∷_, _++_, Sublist}
 use mathlib.Core.Logic.{_⊎_}
 use mathlib.Core.Path.{_≡_}
 use Prim.Native.Nat.{ℕ, _<_}
@@ -41,6 +41,15 @@ InOrder =
     → OnlyHandsOn (answer buffer powerUp .receiver) calls
     → gathered handedOn (answer buffer powerUp .receiver) calls ++ held (after (answer buffer powerUp .receiver) calls)
     ≡ gathered arrival (answer buffer powerUp .receiver) calls
+
+-- A drain hands on "the frame held longest", also where frames are lost, acknowledged or gone with a power-up: over every list of calls
+-- whatever, the frames handed on, followed by those still held, are those held at first, followed by the arrivals, with some left out.
+abbrev pub NoneOvertakes : Type 0
+NoneOvertakes =
+    (s : List ℕ)
+    → IsReceiver s
+    → (calls : List Call)
+    → Sublist (gathered handedOn s calls ++ held (after s calls)) (held s ++ gathered arrival s calls)
 
 -- `held` is the order in which they would be handed on: eight drains hand on just these.
 abbrev pub HeldInTurn : Type 0

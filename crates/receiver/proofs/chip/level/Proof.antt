@@ -9,12 +9,14 @@ use Rattle.receiver.proofs.chip.level.Tie as tie
 returns : tie.Need-returns
 returns c =
     let k = c .before .before in
-    line-down (now (k .before .args .receiver)) (k .shared-slice-known .given statusRegister .fits) (k .shared-slice-known .given maskRegister .fits) (c .if1 .taken)
+    let fits = k .shared-slice-known .given in
+    line-down (now (k .before .args .receiver)) (fits statusRegister .fits) (fits maskRegister .fits) (c .if1 .taken)
 
 returns-2 : tie.Need-returns-2
 returns-2 c =
     let k = c .before .before in
-    line-up (now (k .before .args .receiver)) (k .shared-slice-known .given statusRegister .fits) (k .shared-slice-known .given maskRegister .fits) (c .if1 .left)
+    let fits = k .shared-slice-known .given in
+    line-up (now (k .before .args .receiver)) (fits statusRegister .fits) (fits maskRegister .fits) (c .if1 .left)
 
 pub level-spec : {M : Type 1} → statement M
 level-spec = tie.close (tie.spec (search needs) (search needs) returns returns-2)
