@@ -166,8 +166,14 @@ pub fn of_posts() -> Table<[Turn]> {
         table.row(EVERYWHERE, format!("leads: {leads}"), move |turns| turns.len() == leads);
         table.row(REACHED, format!("leads in 6 or 7 at once: {leads}"), move |turns|
             turns.iter().filter(|turn| matches!(turn.after.phase, 6 | 7)).count() == leads);
-        table.row(REACHED, format!("leads that want more than there is: {leads}"), move |turns|
-            turns.iter().filter(|turn| turn.want > 0).count() == leads && any_short(turns));
+        // The level is found in one step a want that is met, and one more where not all are.
+        for met in 0..=leads {
+            table.row(REACHED, format!("wants above 0: {leads}, of these met: {met}"), move |turns| wants_and_met(turns) == [leads, met]);
+        }
+        table.row(REACHED, format!("of four different wants that of lead {leads} is the smallest"), move |turns|
+            of_four(turns, leads, |want, other| want < other));
+        table.row(REACHED, format!("of four different wants that of lead {leads} is the largest"), move |turns|
+            of_four(turns, leads, |want, other| want > other));
         table.row(REACHED, format!("energy of lead {leads} grows"), move |turns| turns.get(leads - 1).is_some_and(Turn::grows));
     }
     for (name, ohms) in CABLES {
@@ -184,6 +190,24 @@ fn any_short(turns: &[Turn]) -> bool {
     turns.iter().any(Turn::is_short)
 }
 
+/// How many wants are above 0, and how many of these are met.
+fn wants_and_met(turns: &[Turn]) -> [usize; 2] {
+    let wanting = || turns.iter().filter(|turn| turn.want > 0);
+    [wanting().count(), wanting().filter(|turn| !turn.is_short()).count()]
+}
+
+/// Whether four leads want something different each, and not all get it, and a lead's want is so
+/// to all others.
+fn of_four(turns: &[Turn], lead: usize, so: fn(u32, u32) -> bool) -> bool {
+    let mut wants: Vec<u32> = turns.iter().map(|turn| turn.want).collect();
+    wants.sort_unstable();
+    wants.dedup();
+    wants.len() == MOST_LEADS
+        && wants[0] > 0
+        && any_short(turns)
+        && turns.iter().enumerate().all(|(at, turn)| at == lead - 1 || so(turns[lead - 1].want, turn.want))
+}
+
 fn any_wants_in(turns: &[Turn], phase: u8) -> bool {
     let mut those = turns.iter().filter(|turn| turn.after.phase == phase);
     those.any(|turn| turn.want > 0)
@@ -193,8 +217,13 @@ const MOST_WATTS: u32 = MOST_LEADS as u32 * MOST_RATED_VOLTS * MOST_RATED_AMPERE
 
 #[rustfmt::skip]
 const POSTS: &[Fact<[Turn]>] = &[
-    (REACHED, "all wants are met", |turns| wanted(turns) > 0 && !any_short(turns)),
-    (REACHED, "some wants are met, others not", |turns| any_short(turns) && turns.iter().any(|turn| turn.want > 0 && !turn.is_short())),
+    (REACHED, "a want is the level exactly, another is above it", |turns| any_short(turns)
+        && turns.iter().any(|turn| turn.want > 0 && turn.want == turn.level)),
+    (REACHED, "a want is just below the level, another is above it", |turns| any_short(turns)
+        && turns.iter().any(|turn| turn.want > 0 && turn.want < turn.level && turn.level - turn.want == 1)),
+    (REACHED, "a want is just above the level", |turns| turns.iter().any(|turn| turn.is_short() && turn.want - turn.level == 1)),
+    (REACHED, "equal wants that are not met", |turns| turns.iter().enumerate().any(|(at, turn)|
+        turn.is_short() && turns[..at].iter().any(|other| other.want == turn.want))),
     (HANDED_IN, "the most watts are met", |turns| wanted(turns) == MOST_WATTS && !any_short(turns)),
     (HANDED_IN, "the most watts are not met", |turns| wanted(turns) == MOST_WATTS && any_short(turns)),
     (REACHED, "a lead ramps down while another charges", |turns| any_wants_in(turns, 7) && any_wants_in(turns, 6)),

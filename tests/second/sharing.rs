@@ -6,21 +6,27 @@ pub const MOST_LEADS: usize = 4;
 /// "The largest whole number from 0 to the allowance at which the sum of the
 /// smaller of want and level is at most the allowance."
 ///
-/// The wants are met from the smallest up, as long as an equal part of what is
-/// left covers the next one. The first part that doesn't is the level: one watt
-/// more for it and for all the larger wants would be too much.
+/// 2026-03: "work it out in at most one step a lead, from the wants taken smallest
+/// first". A step meets the next want in full if an equal part of what is left
+/// covers it. If not, it is the last step and that part is the level: one watt more
+/// for this want and for all those after it would be too much. A want of 0 is met
+/// without a step, so that a lead that is not there takes none.
 pub fn level(mut wants: [u32; MOST_LEADS], allowance: u32) -> u32 {
     wants.sort_unstable();
+    let zeros = wants.partition_point(|&want| want == 0);
+    let mut unmet = &wants[zeros..];
+    // "The watts carried along are, after each step, the allowance less the wants
+    // met in full so far."
     let mut left = allowance;
-    let mut takers = MOST_LEADS as u32;
-    for want in wants {
-        let part = left / takers;
-        if want > part {
+    while let [want, after @ ..] = unmet {
+        let part = left / unmet.len() as u32;
+        if *want > part {
             return part;
         }
         left -= want;
-        takers -= 1;
+        unmet = after;
     }
+    // All are met, so nothing but the allowance bounds the level.
     allowance
 }
 

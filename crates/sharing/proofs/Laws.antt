@@ -1,13 +1,13 @@
 -- The laws of the level. They hold however it is found. Assumes nothing.
-use mathlib.Core.Path.{_≡_, refl, sym, ap, subst, _∙_}
+use mathlib.Core.Path.{_≡_, refl, ap, _∙_}
 use mathlib.Core.Logic.{_⊎_, inl, inr}
 use Prim.Native.Nat.{ℕ, zero, suc, _+_, _-_, _*_, _/_, _≤_, _<_, min}
-use native.Mathlib.Nat.{le-antisymm, le-trans, lt-of-not-le, not-le-of-lt, div-mul-le-self, mul-div-le, lt-div-mul-add, div-le-self}
+use native.Mathlib.Nat.{le-antisymm, le-trans, lt-of-not-le, not-le-of-lt, div-mul-le-self, div-le-self}
 use native.Mathlib.Numerals.{unary-clauses}
 use native.Mathlib.Omega.{arith}
 use lib.Dec.{leb}
 use borrow.Author.Tests.{leb-true, le-leb}
-use Rattle.sharing.specs.Level.{sum, totalAt, fits, levelOf, oneIfAny, wantingAt, equalPart}
+use Rattle.sharing.specs.Level.{sum, totalAt, fits, levelOf, oneIfAny, equalPart}
 use Rattle.sharing.proofs.Sums.{sum-le, sum-times, largest-within, largest-passes, largest-most, largest-same}
 
 pub total-is : (n : ℕ) (wants : ℕ → ℕ) (level : ℕ) → totalAt n wants level ≡ sum n (λ k. min (wants k) level)
@@ -19,45 +19,6 @@ module _ (n : ℕ) (wants : ℕ → ℕ) where
   total-grows : (i j : ℕ) → i ≤ j → totalAt n wants i ≤ totalAt n wants j
   unfolding totalAt
   total-grows i j h = sum-le n (λ k. min (wants k) i) (λ k. min (wants k) j) (λ k x. omega arith)
-
-pub one-any : (x : ℕ) → 0 < x → oneIfAny x ≡ 1
-one-any zero h = absurd (omega arith)
-one-any (suc x) h = refl
-
-pub one-none : (x : ℕ) → x ≡ 0 → oneIfAny x ≡ 0
-one-none zero e = refl
-one-none (suc x) e = absurd (omega arith)
-
--- what is given out when the level rises: as much more for each want above it, or less
-pub total-above : (n : ℕ) (wants : ℕ → ℕ) (level more : ℕ) → totalAt n wants (level + more) ≤ totalAt n wants level + wantingAt n wants level * more
-unfolding totalAt wantingAt
-total-above zero wants level more = omega arith
-total-above (suc n) wants level more = omega (arith, total-above n wants level more, one (wants n - level) refl)
-  where
-    one : (above : ℕ) → wants n - level ≡ above → min (wants n) (level + more) ≤ min (wants n) level + oneIfAny above * more
-    one zero e = omega arith
-    one (suc above) e = omega arith
-
--- exactly one more for each, where it rises by 1
-pub total-next : (n : ℕ) (wants : ℕ → ℕ) (level : ℕ) → totalAt n wants (level + 1) ≡ totalAt n wants level + wantingAt n wants level
-unfolding totalAt wantingAt
-total-next zero wants level = refl
-total-next (suc n) wants level = omega (arith, total-next n wants level, one (wants n - level) refl)
-  where
-    one : (above : ℕ) → wants n - level ≡ above → min (wants n) (level + 1) ≡ min (wants n) level + oneIfAny above
-    one zero e = omega arith
-    one (suc above) e = omega arith
-
--- whoever wants more than a level gets all of it
-total-least : (n : ℕ) (wants : ℕ → ℕ) (level : ℕ) → 0 < wantingAt n wants level → level ≤ totalAt n wants level
-unfolding totalAt wantingAt
-total-least zero wants level h = absurd (omega arith)
-total-least (suc n) wants level h = go (wants n - level) refl h (λ x. total-least n wants level x)
-  where
-    go : (above : ℕ) → wants n - level ≡ above → 0 < wantingAt n wants level + oneIfAny above
-        → (0 < wantingAt n wants level → level ≤ totalAt n wants level) → level ≤ totalAt n wants level + min (wants n) level
-    go zero e x fewer = omega (arith, fewer (omega arith))
-    go (suc above) e x fewer = omega arith
 
 -- what is given out at a level is at most the level for each want above 0
 total-at-most : (n : ℕ) (wants : ℕ → ℕ) (level : ℕ) → totalAt n wants level ≤ sum n (λ k. oneIfAny (wants k)) * level
@@ -101,40 +62,6 @@ module _ (n : ℕ) (wants : ℕ → ℕ) (limit : ℕ) where
           (let y : levelOf n wants limit < l + 1
           = lt-of-not-le (λ z. not-le-of-lt x (le-trans (total-grows n wants (l + 1) (levelOf n wants limit) z) level-fits)) in
           omega arith)
-
-  -- where nobody wants more than a level that fits, it is the limit itself
-  pub level-met : (l : ℕ) → l ≤ limit → totalAt n wants l ≤ limit → wantingAt n wants l ≡ 0 → limit ≡ levelOf n wants limit
-  level-met l h t e = level-is limit (omega arith) (subst (λ (m : ℕ). totalAt n wants m ≤ limit) whole all) (inl refl)
-    where
-      whole : l + (limit - l) ≡ limit
-      whole = omega arith
-
-      all : totalAt n wants (l + (limit - l)) ≤ limit
-      all = omega (arith, total-above n wants l (limit - l), ap (λ (m : ℕ). m * (limit - l)) e)
-
-  -- a round, which gives an equal part of what is left to each who wants more
-  module _ (l takers part : ℕ) (t : totalAt n wants l ≤ limit) (count : takers ≡ wantingAt n wants l) (some : 0 < takers)
-      (e : part ≡ (limit - totalAt n wants l) / takers) where
-    abbrev left : ℕ
-    left = limit - totalAt n wants l
-
-    -- it stays within the limit and fits
-    pub level-rises : (l + part ≤ limit) × (totalAt n wants (l + part) ≤ limit)
-    level-rises = (
-      omega (arith, total-least n wants l (omega arith), div-le-self left takers),
-      omega (arith, above, spent),
-    )
-      where
-        above : totalAt n wants (l + part) ≤ totalAt n wants l + takers * part
-        above = rw count (total-above n wants l part)
-
-        spent : takers * part ≤ left
-        spent = rw e (mul-div-le left takers)
-
-    -- where it gives nothing it was the last
-    pub level-done : l ≤ limit → part ≡ 0 → l ≡ levelOf n wants limit
-    level-done h z =
-        level-is l h t (inr (omega (arith, total-next n wants l, lt-div-mul-add {a = left} some, ap (λ (m : ℕ). m * takers) (sym e ∙ z))))
 
   -- nobody is held below an equal part
   pub level-shares : equalPart n wants limit ≤ levelOf n wants limit

@@ -1,3 +1,8 @@
--- Laws: of sums and of the largest number that passes a test, then of the level, which other crates cite.
+-- Laws: of sums and of the largest number that passes a test, of the level, which other crates cite, of wants in order, of the way to the
+-- level, and of that way as the code goes it; then the claims.
 pub mod Sums
 pub mod Laws
+pub mod Order
+pub mod Way
+pub mod Steps
+pub mod Claimed

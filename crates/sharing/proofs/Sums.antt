@@ -2,11 +2,13 @@
 use mathlib.Core.Bool.{Bool, true, false, cond}
 use mathlib.Core.Path.{_≡_, refl, sym, ap, _∙_}
 use mathlib.Core.Logic.{_⊎_, inl, inr}
-use Prim.Native.Nat.{ℕ, zero, suc, _*_, _≤_, _<_}
+use mathlib.Core.List.{List, [], _∷_}
+use Prim.Native.Nat.{ℕ, zero, suc, _+_, _*_, _≤_, _<_}
 use native.Mathlib.Omega.{arith}
 use lib.Dec.{leb}
+use lib.ListN.{length}
 use borrow.Author.Tests.{leb-true, leb-false}
-use Rattle.sharing.specs.Level.{sum, largest}
+use Rattle.sharing.specs.Level.{wantOf, sum, largest}
 
 pub sum-le : (n : ℕ) (f g : ℕ → ℕ) → ((k : ℕ) → k < n → f k ≤ g k) → sum n f ≤ sum n g
 sum-le zero f g h = omega arith
@@ -54,3 +56,17 @@ largest-same f g e zero = refl
 largest-same f g e (suc top) =
     ap (λ (b : Bool). cond b (suc top) (largest f top)) (e (suc top))
     ∙ ap (λ (m : ℕ). cond (g (suc top)) (suc top) m) (largest-same f g e top)
+
+-- a sum over the members of a list
+abbrev pub sumOver : (ℕ → ℕ) → List ℕ → ℕ
+sumOver f [] = 0
+sumOver f (want ∷ more) = f want + sumOver f more
+
+-- a sum taken from the front
+pub sum-front : (n : ℕ) (f : ℕ → ℕ) → sum (suc n) f ≡ f 0 + sum n (λ k. f (suc k))
+sum-front zero f = omega arith
+sum-front (suc n) f = omega (arith, sum-front n f)
+
+pub sum-over : (f : ℕ → ℕ) (members : List ℕ) → sum (length members) (λ k. f (wantOf members k)) ≡ sumOver f members
+sum-over f [] = refl
+sum-over f (want ∷ more) = sum-front (length more) (λ k. f (wantOf (want ∷ more) k)) ∙ ap (λ (x : ℕ). f want + x) (sum-over f more)

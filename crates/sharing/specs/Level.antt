@@ -1,7 +1,7 @@
 -- Document 01, 'Dividing the allowance': the level and an equal part. Definitions only. Document 01's allowance is the limit here.
 use mathlib.Core.Bool.{Bool, cond}
 use mathlib.Core.List.{List}
-use Prim.Native.Nat.{ℕ, zero, suc, _+_, _-_, _/_, min}
+use Prim.Native.Nat.{ℕ, zero, suc, _+_, _/_, min}
 use lib.Dec.{leb}
 use lib.ListN.{getD}
 
@@ -38,10 +38,6 @@ levelOf n wants limit = largest (fits n wants limit) limit
 abbrev pub oneIfAny : ℕ → ℕ
 oneIfAny zero = 0
 oneIfAny (suc want) = 1
-
--- how many of them want more than a level gives
-unfoldable pub wantingAt : ℕ → (ℕ → ℕ) → ℕ → ℕ
-wantingAt n wants level = sum n (λ k. oneIfAny (wants k - level))
 
 -- "An equal part is the allowance divided by the number of leads with a want above 0, rounded down, and 0 where there is no such lead": a number divided by 0 is 0 here
 unfoldable pub equalPart : ℕ → (ℕ → ℕ) → ℕ → ℕ

@@ -1,2 +1,4 @@
 pub mod Level
+pub mod Way
+pub mod Claims
 pub mod All

@@ -1,7 +1,10 @@
-// Sharing a power limit out: document 01, 'Dividing the allowance'. Wants and the limit are in watts. Rests on nothing.
+// Sharing a power limit out: document 01, 'Dividing the allowance', in the way that request 2026-03 asks for. Wants and the limit are in
+// watts. Rests on nothing.
 ghost use mathlib.Core.Path.{_≡_};
-ghost use Prim.Native.Nat.{_-_, _/_, _≤_, _<_, min};
-ghost use Rattle.sharing.specs.Level.{places, wantOf, totalAt, levelOf, oneIfAny, wantingAt};
+ghost use Prim.Native.Nat.{ℕ, _+_, _-_, _<_, min, max};
+ghost use Rattle.sharing.specs.Level.{places, wantOf, levelOf};
+ghost use Rattle.sharing.specs.Way.{inOrder, carriedAfter, stepOf, way, levelFound};
+ghost use Rattle.sharing.specs.declared.Step.the-variants.{Met};
 
 // As many as may want power at once; a place that nobody has wants 0.
 pub const PLACES: usize = 4;
@@ -12,65 +15,83 @@ fn lesser(a: u32, b: u32) -> u32
     if a < b { a } else { b }
 }
 
-// The bound is stated because the sum below needs it.
-fn widened(x: u32) -> u64
-    ensures { λ r. ⌜ (r ≡ x) × (r < 4294967296) ⌝ }
+fn greater(a: u32, b: u32) -> u32
+    ensures { λ r. ⌜ r ≡ max a b ⌝ }
 {
-    x as u64
+    if a < b { b } else { a }
 }
 
-fn total_at(wants: [u32; PLACES], level: u32) -> u64
-    ensures { λ r. ⌜ r ≡ totalAt places (wantOf wants) level ⌝ }
+// Smallest first. The smallest of all is the smaller one of two pairs' smaller, the largest the larger one of their larger; the other two
+// stand between them.
+fn in_order(wants: [u32; PLACES]) -> [u32; PLACES]
+    ensures { λ r. ⌜ r ≡ inOrder wants ⌝ }
 {
-    widened(lesser(wants[0], level))
-        + widened(lesser(wants[1], level))
-        + widened(lesser(wants[2], level))
-        + widened(lesser(wants[3], level))
+    let low = lesser(wants[0], wants[1]);
+    let high = greater(wants[0], wants[1]);
+    let other_low = lesser(wants[2], wants[3]);
+    let other_high = greater(wants[2], wants[3]);
+    let between = greater(low, other_low);
+    let other_between = lesser(high, other_high);
+    [
+        lesser(low, other_low),
+        lesser(between, other_between),
+        greater(between, other_between),
+        greater(high, other_high),
+    ]
 }
 
-// 1 for a want above the level.
-fn one_above(want: u32, level: u32) -> u32
-    ensures { λ r. ⌜ r ≡ oneIfAny (want - level) ⌝ }
-    ensures { λ r. ⌜ r ≤ 1 ⌝ }
-{
-    if level < want { 1 } else { 0 }
+// What a step comes to.
+enum Step {
+    // It meets a want in full, and carries on what is left. Which want it is only the claims look at.
+    Met { want: u32, carried: u32 },
+    // It is the last, and gives the level.
+    Last { level: u32 },
 }
 
-// How many want more than the level gives.
-fn wanting(wants: [u32; PLACES], level: u32) -> u32
-    ensures { λ r. ⌜ r ≡ wantingAt places (wantOf wants) level ⌝ }
+// The step at a place: its want is met where an equal part of the watts carried, for each who is not yet met, reaches it; else the part is
+// the level. If what comes in is the limit less the wants before it, what goes on is that less this want.
+fn take_step(order: [u32; PLACES], place: usize, carried: u32) -> Step
+    requires { ⌜ place < places ⌝ }
+    ensures { λ r. ⌜ r ≡ stepOf (wantOf order place) (places - place) carried ⌝ }
+    ensures { λ r. ⌜ ((limit want left : ℕ)
+        → carried ≡ carriedAfter place order limit → r ≡ Met want left → left ≡ carriedAfter (place + 1) order limit) ⌝ }
 {
-    one_above(wants[0], level)
-        + one_above(wants[1], level)
-        + one_above(wants[2], level)
-        + one_above(wants[3], level)
+    let want = order[place];
+    let unmet = (PLACES - place) as u32;
+    let part = carried / unmet;
+    if part < want {
+        return Step::Last { level: part };
+    }
+    Step::Met {
+        want,
+        carried: carried - want,
+    }
 }
 
-// What is left of the limit at that level, divided equally among the takers.
-fn part_of_rest(wants: [u32; PLACES], level: u32, limit: u32, takers: u32) -> u32
-    requires { ⌜ (totalAt places (wantOf wants) level ≤ limit) × (0 < takers) ⌝ }
-    ensures { λ r. ⌜ r ≡ (limit - totalAt places (wantOf wants) level) / takers ⌝ }
+// One step a place at most, and none where nothing is wanted.
+fn found(order: [u32; PLACES], limit: u32) -> u32
+    ensures { λ r. ⌜ r ≡ levelFound (way order limit) limit ⌝ }
 {
-    let left = widened(limit) - total_at(wants, level);
-    (left as u32) / takers
+    let mut carried = limit;
+    let mut place = 0;
+    while place < PLACES {
+        if order[place] > 0 {
+            match take_step(order, place, carried) {
+                Step::Met {
+                    want: _,
+                    carried: left,
+                } => carried = left,
+                Step::Last { level } => return level,
+            }
+        }
+        place += 1;
+    }
+    limit
 }
 
-// Raises the level round by round: what is left of the limit is divided equally among those who want more. A round meets somebody's want or
-// is the last but one, so there are few of them.
+// The wants are met from the smallest up, as long as an equal part of what is left is enough.
 pub fn level(wants: [u32; PLACES], limit: u32) -> u32
     ensures { λ r. ⌜ r ≡ levelOf places (wantOf wants) limit ⌝ }
 {
-    let mut level: u32 = 0;
-    while level < limit {
-        let takers = wanting(wants, level);
-        if takers == 0 {
-            return limit;
-        }
-        let part = part_of_rest(wants, level, limit, takers);
-        if part == 0 {
-            return level;
-        }
-        level += part;
-    }
-    level
+    found(in_order(wants), limit)
 }
