@@ -1,4 +1,4 @@
--- Request 2026-03: what it says of the way, over any number of wants and any limit, and some ways worked out. Statements only.
+-- Request 2026-03: what it says of the way, over any number of wants and any limit, and some ways worked out. Definitions only.
 use mathlib.Core.Bool.{cond}
 use mathlib.Core.List.{List, [], _∷_}
 use mathlib.Core.Path.{_≡_}

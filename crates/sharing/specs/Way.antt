@@ -26,7 +26,7 @@ takers (zero ∷ more) = takers more
 takers (suc want ∷ more) = suc want ∷ takers more
 
 -- "The watts carried along are, after each step, the allowance less the wants met in full so far": over wants that take a step (`takers`)
--- these are, after n steps, the first n. Over all wants in order n counts the places passed, of which those that want 0 add nothing.
+-- these are, after n steps, the first n. Over all wants in order n counts those met, of which wants of 0 add nothing.
 unfoldable pub carriedAfter : ℕ → List ℕ → ℕ → ℕ
 carriedAfter n order limit = limit - sum n (wantOf order)
 

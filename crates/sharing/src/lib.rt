@@ -1,7 +1,8 @@
 // Sharing a power limit out: document 01, 'Dividing the allowance', in the way that request 2026-03 asks for. Wants and the limit are in
 // watts. Rests on nothing.
+ghost use mathlib.Core.List.{List};
 ghost use mathlib.Core.Path.{_≡_};
-ghost use Prim.Native.Nat.{ℕ, _+_, _-_, _<_, min, max};
+ghost use Prim.Native.Nat.{ℕ, _+_, _<_, min, max};
 ghost use Rattle.sharing.specs.Level.{places, wantOf, levelOf};
 ghost use Rattle.sharing.specs.Way.{inOrder, carriedAfter, stepOf, way, levelFound};
 ghost use Rattle.sharing.specs.declared.Step.the-variants.{Met};
@@ -48,23 +49,23 @@ enum Step {
     Last { level: u32 },
 }
 
-// The step at a place: its want is met where an equal part of the watts carried, for each who is not yet met, reaches it; else the part is
-// the level. If what comes in is the limit less the wants before it, what goes on is that less this want.
-fn take_step(order: [u32; PLACES], place: usize, carried: u32) -> Step
-    requires { ⌜ place < places ⌝ }
-    ensures { λ r. ⌜ r ≡ stepOf (wantOf order place) (places - place) carried ⌝ }
-    ensures { λ r. ⌜ ((limit want left : ℕ)
-        → carried ≡ carriedAfter place order limit → r ≡ Met want left → left ≡ carriedAfter (place + 1) order limit) ⌝ }
+// A want is met where an equal part of the watts carried, for each who is not yet met, reaches it; else the part is the level. Whatever wants
+// and limit it is a step of: if this want comes after n others, and what comes in is the limit less those, then what goes on is the limit less
+// these n + 1.
+fn take_step(want: u32, unmet: u32, carried: u32) -> Step
+    requires { ⌜ 0 < unmet ⌝ }
+    ensures { λ r. ⌜ r ≡ stepOf want unmet carried ⌝ }
+    ensures { λ r. ⌜ ((order : List ℕ) (n limit met left : ℕ)
+        → want ≡ wantOf order n → carried ≡ carriedAfter n order limit → r ≡ Met met left → left ≡ carriedAfter (n + 1) order limit) ⌝ }
 {
-    let want = order[place];
-    let unmet = (PLACES - place) as u32;
     let part = carried / unmet;
     if part < want {
         return Step::Last { level: part };
     }
+    let left = carried - want;
     Step::Met {
         want,
-        carried: carried - want,
+        carried: left,
     }
 }
 
@@ -75,8 +76,9 @@ fn found(order: [u32; PLACES], limit: u32) -> u32
     let mut carried = limit;
     let mut place = 0;
     while place < PLACES {
-        if order[place] > 0 {
-            match take_step(order, place, carried) {
+        let want = order[place];
+        if want > 0 {
+            match take_step(want, (PLACES - place) as u32, carried) {
                 Step::Met {
                     want: _,
                     carried: left,

@@ -52,7 +52,7 @@ loop-again c =
       l .loop .inv .1
           ∙ found-meets (a .t1) places (l .loop .place) (l .loop .carried) (a .limit) (four (l .before)) (c .before .loop-test .taken) (w .0 .taken)
           want (c .if1 .carried) (sym met ∙ w .1 .ensures .0),
-      w .1 .ensures .1 (a .limit) want (c .if1 .carried) (l .loop .inv .2) met,
+      w .1 .ensures .1 (a .t1) (l .loop .place) (a .limit) want (c .if1 .carried) refl (l .loop .inv .2) met,
     ))
     (λ w.
     let none : wantOf (a .t1) (l .loop .place) ≡ 0 = omega (arith, w .0 .left) in (
@@ -73,5 +73,5 @@ returns-2 c =
 pub found-spec : {M : Type 1} → statement M
 found-spec =
     tie.close
-    (tie.spec Inv-loop μ-loop loop-holds (search needs) (search needs) (search needs) (search needs) (search needs) returns (search needs)
-    (search needs) loop-again returns-2)
+    (tie.spec Inv-loop μ-loop loop-holds (search needs) (search needs) (search needs) (search needs) (search needs) (search needs) (search needs)
+    returns (search needs) (search needs) loop-again returns-2)
