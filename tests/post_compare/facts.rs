@@ -170,11 +170,12 @@ pub fn of_posts() -> Table<[Turn]> {
         for met in 0..=leads {
             table.row(REACHED, format!("wants above 0: {leads}, of these met: {met}"), move |turns| wants_and_met(turns) == [leads, met]);
         }
-        table.row(REACHED, format!("of four different wants that of lead {leads} is the smallest"), move |turns|
-            of_four(turns, leads, |want, other| want < other));
-        table.row(REACHED, format!("of four different wants that of lead {leads} is the largest"), move |turns|
-            of_four(turns, leads, |want, other| want > other));
         table.row(REACHED, format!("energy of lead {leads} grows"), move |turns| turns.get(leads - 1).is_some_and(Turn::grows));
+    }
+    for order in orders() {
+        let numbers = order.map(|at| (at + 1).to_string()).join(", ");
+        table.row(REACHED, format!("power short, four different wants, smallest first those of leads {numbers}"), move |turns|
+            any_short(turns) && wants_rise(turns, order));
     }
     for (name, ohms) in CABLES {
         table.row(REACHED, format!("cable resistance {name}"), move |turns|
@@ -196,16 +197,17 @@ fn wants_and_met(turns: &[Turn]) -> [usize; 2] {
     [wanting().count(), wanting().filter(|turn| !turn.is_short()).count()]
 }
 
-/// Whether four leads want something different each, and not all get it, and a lead's want is so
-/// to all others.
-fn of_four(turns: &[Turn], lead: usize, so: fn(u32, u32) -> bool) -> bool {
-    let mut wants: Vec<u32> = turns.iter().map(|turn| turn.want).collect();
-    wants.sort_unstable();
-    wants.dedup();
-    wants.len() == MOST_LEADS
-        && wants[0] > 0
-        && any_short(turns)
-        && turns.iter().enumerate().all(|(at, turn)| at == lead - 1 || so(turns[lead - 1].want, turn.want))
+/// All orders of the places of four leads.
+fn orders() -> impl Iterator<Item = [usize; MOST_LEADS]> {
+    let places = (0..MOST_LEADS.pow(4)).map(|mix| [64, 16, 4, 1].map(|worth| mix / worth % MOST_LEADS));
+    places.filter(|order| (0..MOST_LEADS).all(|at| order.contains(&at)))
+}
+
+/// Whether four leads want something, each more than the one before it in an order.
+fn wants_rise(turns: &[Turn], order: [usize; MOST_LEADS]) -> bool {
+    turns.len() == MOST_LEADS
+        && turns[order[0]].want > 0
+        && order.windows(2).all(|pair| turns[pair[0]].want < turns[pair[1]].want)
 }
 
 fn any_wants_in(turns: &[Turn], phase: u8) -> bool {
@@ -527,7 +529,6 @@ const TURNS: &[Fact<Turn>] = &[
     (HANDED_IN, "command cut off in 7 at age 30", |turn| turn.lowered_into(8)),
     (REACHED, "more wanted in 6 than the level", |turn| turn.after.phase == 6 && turn.is_short()),
     (REACHED, "more wanted in 7 than the level", |turn| turn.after.phase == 7 && turn.is_short()),
-    (REACHED, "the level wanted exactly", |turn| turn.want > 0 && turn.want == turn.level),
     (REACHED, "level 0 in 6", |turn| turn.after.phase == 6 && turn.is_short() && turn.level == 0),
 
     (REACHED, "energy grows in 6", |turn| turn.stayed_in(6) && turn.grows()),

@@ -30,7 +30,7 @@ total-at-most n wants level =
     one zero = omega arith
     one (suc want) = omega arith
 
-pub total-at-zero : (n : ℕ) (wants : ℕ → ℕ) → totalAt n wants 0 ≡ 0
+total-at-zero : (n : ℕ) (wants : ℕ → ℕ) → totalAt n wants 0 ≡ 0
 unfolding totalAt
 total-at-zero zero wants = refl
 total-at-zero (suc n) wants = omega (arith, total-at-zero n wants)

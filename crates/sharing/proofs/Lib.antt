@@ -1,5 +1,5 @@
--- Laws: of sums and of the largest number that passes a test, of the level, which other crates cite, of wants in order, of the way to the
--- level, and of that way as the code goes it; then the claims.
+-- Laws: of sums, of the largest number that passes a test and of the level, which other crates cite; of wants in order, of the way to the
+-- level, and of that way as the code goes it. Then the claims.
 pub mod Sums
 pub mod Laws
 pub mod Order

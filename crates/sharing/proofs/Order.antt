@@ -1,15 +1,16 @@
 -- Wants put in order: the same wants, none above its next; and the order of four as the code makes it. Assumes nothing.
 use mathlib.Core.Bool.{Bool, true, false}
 use mathlib.Core.List.{List, [], _∷_}
-use mathlib.Core.Path.{_≡_, refl, ap, _∙_}
+use mathlib.Core.Path.{_≡_, refl, sym, ap, _∙_}
 use Prim.Native.Nat.{ℕ, zero, suc, _+_, _≤_, _<_, min, max}
 use native.Mathlib.Omega.{arith}
 use borrow.Author.Tests.{leb-true, leb-false}
 use lib.Dec.{leb}
-use lib.ListN.{length}
-use Rattle.sharing.specs.Level.{wantOf}
+use lib.ListN.{length, drop-of-length-le}
+use Rattle.common.proofs.Spelled.{spelled-is}
+use Rattle.sharing.specs.Level.{places, wantOf}
 use Rattle.sharing.specs.Way.{insert, inOrder}
-use Rattle.sharing.proofs.Sums.{sumOver}
+use Rattle.sharing.proofs.Sums.{sumOfEach}
 
 -- what holds of two numbers both ways round holds of their smaller and their larger
 module _ (P : ℕ → ℕ → Type 0) (a b : ℕ) where
@@ -28,14 +29,14 @@ module _ (P : ℕ → ℕ → Type 0) (a b : ℕ) where
           let high : max a b ≡ a = omega arith in
           rw (low, high) y
 
-insert-sum : (f : ℕ → ℕ) (want : ℕ) (order : List ℕ) → sumOver f (insert want order) ≡ f want + sumOver f order
+insert-sum : (f : ℕ → ℕ) (want : ℕ) (order : List ℕ) → sumOfEach f (insert want order) ≡ f want + sumOfEach f order
 unfolding insert
 insert-sum f want [] = refl
 insert-sum f want (next ∷ more) =
     omega (arith, insert-sum f (max want next) more, sorted-pair (λ (a b : ℕ). f a + f b ≡ f want + f next) want next refl (omega arith))
 
 -- whatever is summed over the wants is the same in order
-pub in-order-sum : (f : ℕ → ℕ) (wants : List ℕ) → sumOver f (inOrder wants) ≡ sumOver f wants
+pub in-order-sum : (f : ℕ → ℕ) (wants : List ℕ) → sumOfEach f (inOrder wants) ≡ sumOfEach f wants
 unfolding inOrder
 in-order-sum f [] = refl
 in-order-sum f (want ∷ more) = insert-sum f want (inOrder more) ∙ ap (λ (x : ℕ). f want + x) (in-order-sum f more)
@@ -139,10 +140,7 @@ module _ (a b c d : ℕ) where
       (between-rises (min a b) (max a b) (min c d) (max c d) (omega arith) (omega arith))
 
 -- an array of four has these members
-pub four-members : (wants : List ℕ) → length wants ≡ 4 → wants ≡ wantOf wants 0 ∷ wantOf wants 1 ∷ wantOf wants 2 ∷ wantOf wants 3 ∷ []
-four-members [] e = absurd (omega arith)
-four-members (a ∷ []) e = absurd (omega arith)
-four-members (a ∷ b ∷ []) e = absurd (omega arith)
-four-members (a ∷ b ∷ c ∷ []) e = absurd (omega arith)
-four-members (a ∷ b ∷ c ∷ d ∷ []) e = refl
-four-members (a ∷ b ∷ c ∷ d ∷ x ∷ more) e = absurd (omega arith)
+pub four-members : (wants : List ℕ) → length wants ≡ places → wants ≡ wantOf wants 0 ∷ wantOf wants 1 ∷ wantOf wants 2 ∷ wantOf wants 3 ∷ []
+four-members wants e =
+    sym (spelled-is 0 wants places 0 (omega arith))
+    ∙ ap (λ (rest : List ℕ). wantOf wants 0 ∷ wantOf wants 1 ∷ wantOf wants 2 ∷ wantOf wants 3 ∷ rest) (drop-of-length-le wants {i = places} (omega arith))

@@ -1,4 +1,4 @@
--- The way as the code goes it, place by place, over wants in order that have places for wants of 0 too. Assumes nothing.
+-- The way as the code goes it: place by place, wants of 0 among them. Assumes nothing.
 use mathlib.Core.List.{List, _∷_}
 use mathlib.Core.Path.{_≡_, refl, ap}
 use Prim.Native.Nat.{ℕ, zero, suc, _+_, _-_, _/_, _≤_, _<_}
@@ -8,7 +8,7 @@ use borrow.Author.Tests.{le-leb, lt-leb}
 use lib.ListN.{length, drop, length-drop}
 use lib.Seq.{drop-cons}
 use Rattle.sharing.specs.Level.{wantOf}
-use Rattle.sharing.specs.Way.{carriedAfter, stepOf, joined, way, levelFound}
+use Rattle.sharing.specs.Way.{carriedAfter, stepOf, stepThen, way, levelFound}
 use Rattle.sharing.specs.declared.Step.{Step}
 use Rattle.sharing.specs.declared.Step.the-variants.{Met, Last}
 
@@ -28,7 +28,7 @@ unfolding carriedAfter
 carried-less n order limit = simp unary-clauses (omega arith)
 
 way-first :
-    (want : ℕ) (more : List ℕ) (carried : ℕ) → 0 < want → way (want ∷ more) carried ≡ joined (stepOf want (length more + 1) carried) (way more)
+    (want : ℕ) (more : List ℕ) (carried : ℕ) → 0 < want → way (want ∷ more) carried ≡ stepThen (stepOf want (length more + 1) carried) (way more)
 unfolding way
 way-first zero more carried h = absurd (omega arith)
 way-first (suc want) more carried h = refl
@@ -47,7 +47,7 @@ module _ (order : List ℕ) (count place carried limit : ℕ) (long : length ord
     step-first :
         (step : Step)
         → step ≡ stepOf (wantOf order place) (count - place) carried
-        → foundFrom place carried ≡ levelFound (joined step (way (drop (place + 1) order))) limit
+        → foundFrom place carried ≡ levelFound (stepThen step (way (drop (place + 1) order))) limit
     step-first step e =
         let unmet : length (drop (suc place) order) + 1 ≡ count - place = omega (arith, length-drop (suc place) order) in
         rw (add-one, drop-cons order place 0 (omega arith), e, ← unmet)

@@ -58,15 +58,15 @@ largest-same f g e (suc top) =
     ∙ ap (λ (m : ℕ). cond (g (suc top)) (suc top) m) (largest-same f g e top)
 
 -- a sum over the members of a list
-abbrev pub sumOver : (ℕ → ℕ) → List ℕ → ℕ
-sumOver f [] = 0
-sumOver f (want ∷ more) = f want + sumOver f more
+abbrev pub sumOfEach : (ℕ → ℕ) → List ℕ → ℕ
+sumOfEach f [] = 0
+sumOfEach f (want ∷ more) = f want + sumOfEach f more
 
 -- a sum taken from the front
 pub sum-front : (n : ℕ) (f : ℕ → ℕ) → sum (suc n) f ≡ f 0 + sum n (λ k. f (suc k))
 sum-front zero f = omega arith
 sum-front (suc n) f = omega (arith, sum-front n f)
 
-pub sum-over : (f : ℕ → ℕ) (members : List ℕ) → sum (length members) (λ k. f (wantOf members k)) ≡ sumOver f members
-sum-over f [] = refl
-sum-over f (want ∷ more) = sum-front (length more) (λ k. f (wantOf (want ∷ more) k)) ∙ ap (λ (x : ℕ). f want + x) (sum-over f more)
+pub sum-of-each : (f : ℕ → ℕ) (members : List ℕ) → sum (length members) (λ k. f (wantOf members k)) ≡ sumOfEach f members
+sum-of-each f [] = refl
+sum-of-each f (want ∷ more) = sum-front (length more) (λ k. f (wantOf (want ∷ more) k)) ∙ ap (λ (x : ℕ). f want + x) (sum-of-each f more)

@@ -1,8 +1,8 @@
--- The way's laws: it comes to the level, it takes no step for a want of 0, and what it carries is the limit less what is met. Assumes nothing.
+-- The way's laws: it comes to the level, it takes no step for a want of 0, and each step is the one whose turn it is. Assumes nothing.
 use mathlib.Core.Bool.{Bool, true, false, cond}
 use mathlib.Core.List.{List, [], _∷_}
 use mathlib.Core.Logic.{_⊎_, inl, inr}
-use mathlib.Core.Path.{_≡_, refl, sym, subst, _∙_}
+use mathlib.Core.Path.{_≡_, refl, sym, ap, subst, _∙_}
 use Prim.Native.Nat.{ℕ, zero, suc, _+_, _-_, _*_, _/_, _≤_, _<_, min}
 use native.Mathlib.Nat.{div-mul-le-self, lt-div-mul-add, div-le-self, le-div-iff-mul-le}
 use native.Mathlib.Omega.{arith}
@@ -10,16 +10,17 @@ use borrow.Author.Tests.{leb-true, leb-false}
 use lib.Dec.{leb}
 use lib.ListN.{length, getD}
 use Rattle.sharing.specs.Level.{wantOf, sum, totalAt, levelOf, oneIfAny}
-use Rattle.sharing.specs.Way.{inOrder, takers, stepOf, joined, way, levelFound}
+use Rattle.sharing.specs.Way.{inOrder, takers, carriedAfter, stepOf, stepThen, way, levelFound}
+use Rattle.sharing.specs.Claims.{stepInTurn}
 use Rattle.sharing.specs.declared.Step.{Step}
 use Rattle.sharing.specs.declared.Step.the-variants.{Met, Last}
-use Rattle.sharing.proofs.Sums.{sumOver, sum-front, sum-over}
+use Rattle.sharing.proofs.Sums.{sumOfEach, sum-front, sum-of-each}
 use Rattle.sharing.proofs.Laws.{level-is}
 use Rattle.sharing.proofs.Order.{in-order-sum, Rises, rises-from-less, in-order-rises}
 
 -- what wants come to at a level
 abbrev totalOver : List ℕ → ℕ → ℕ
-totalOver wants level = sumOver (λ want. min want level) wants
+totalOver wants level = sumOfEach (λ want. min want level) wants
 
 over-at-most : (wants : List ℕ) (level : ℕ) → totalOver wants level ≤ length wants * level
 over-at-most [] level = omega arith
@@ -124,7 +125,7 @@ module _ (limit : ℕ) where
       go : (b : Bool) → leb (suc want) part ≡ b
           → (suc want ≤ part → Found (λ level. given level + min (suc want) level) more (carried - suc want))
           → IsLevel (λ level. given level + totalOver (suc want ∷ more) level) limit
-          (levelFound (joined (cond b (Met (suc want) (carried - suc want)) (Last part)) (way more)) limit)
+          (levelFound (stepThen (cond b (Met (suc want) (carried - suc want)) (Last part)) (way more)) limit)
       go true t onward =
           is-level-same (λ level. given level + min (suc want) level + totalOver more level)
           (λ level. given level + totalOver (suc want ∷ more) level) (λ level. omega arith) (onward (leb-true (suc want) part t))
@@ -132,7 +133,7 @@ module _ (limit : ℕ) where
 
 total-over : (wants : List ℕ) (level : ℕ) → totalOver (inOrder wants) level ≡ totalAt (length wants) (wantOf wants) level
 unfolding totalAt
-total-over wants level = in-order-sum (λ want. min want level) wants ∙ sym (sum-over (λ want. min want level) wants)
+total-over wants level = in-order-sum (λ want. min want level) wants ∙ sym (sum-of-each (λ want. min want level) wants)
 
 -- over the wants in order, with the limit carried at first, it comes to the level
 pub way-level : (wants : List ℕ) (limit : ℕ) → levelFound (way (inOrder wants) limit) limit ≡ levelOf (length wants) (wantOf wants) limit
@@ -155,45 +156,74 @@ way-length [] carried = omega arith
 way-length (zero ∷ more) carried = way-length more carried
 way-length (suc want ∷ more) carried = go (stepOf (suc want) (length more + 1) carried) (way-length more)
   where
-    go : (step : Step) → ((next : ℕ) → length (way more next) ≤ length (takers more)) → length (joined step (way more)) ≤ suc (length (takers more))
+    go : (step : Step) → ((next : ℕ) → length (way more next) ≤ length (takers more)) → length (stepThen step (way more)) ≤ suc (length (takers more))
     go (Met first next) onward = omega (arith, onward next)
     go (Last level) onward = omega arith
 
-pub takers-length : (order : List ℕ) → length (takers order) ≡ sumOver oneIfAny order
+pub takers-length : (order : List ℕ) → length (takers order) ≡ sumOfEach oneIfAny order
 unfolding takers
 takers-length [] = refl
 takers-length (zero ∷ more) = omega (arith, takers-length more)
 takers-length (suc want ∷ more) = omega (arith, takers-length more)
 
-pub never-both : {level want carried : ℕ} → Last level ≡ Met want carried → ⊥
-never-both e = let z : _≡_ {A = ℕ} 0 1 = cc in omega arith
+pub last-not-met : {level want carried : ℕ} → Last level ≡ Met want carried → ⊥
+last-not-met e = let z : _≡_ {A = ℕ} 0 1 = cc in omega arith
 
--- a step that is not the last meets the next taker, and what it carries on and what is met by then are together what was carried at first
-pub way-carries :
-    (order : List ℕ) (carried n want left : ℕ)
-    → getD (way order carried) n (Last 0) ≡ Met want left
-    → (want ≡ wantOf (takers order) n) × (left + sum (suc n) (wantOf (takers order)) ≡ carried)
-unfolding way takers stepOf
-way-carries [] carried n want left e = absurd (never-both e)
-way-carries (zero ∷ more) carried n want left e = way-carries more carried n want left e
-way-carries (suc first ∷ more) carried n want left e =
-    go (leb (suc first) part) refl n e (λ next. way-carries more (carried - suc first) next want left)
+-- a step that is not the last meets its want, which is within the watts that come in
+pub step-met :
+    (want unmet carried met left : ℕ) → stepOf want unmet carried ≡ Met met left → (met ≡ want) × (left ≡ carried - want) × (want ≤ carried)
+unfolding stepOf
+step-met want unmet carried met left e = go (leb want (carried / unmet)) refl e
   where
-    part : ℕ
-    part = carried / (length more + 1)
+    go : (b : Bool) → leb want (carried / unmet) ≡ b → cond b (Met want (carried - want)) (Last (carried / unmet)) ≡ Met met left
+        → (met ≡ want) × (left ≡ carried - want) × (want ≤ carried)
+    go true t x = (cc, cc, omega (arith, leb-true want (carried / unmet) t, div-le-self carried unmet))
+    go false t x = absurd (last-not-met x)
 
-    go : (b : Bool) → leb (suc first) part ≡ b → (n : ℕ)
-        → getD (joined (cond b (Met (suc first) (carried - suc first)) (Last part)) (way more)) n (Last 0) ≡ Met want left
-        → ((next : ℕ) → getD (way more (carried - suc first)) next (Last 0) ≡ Met want left
-        → (want ≡ wantOf (takers more) next) × (left + sum (suc next) (wantOf (takers more)) ≡ carried - suc first))
-        → (want ≡ wantOf (suc first ∷ takers more) n) × (left + sum (suc n) (wantOf (suc first ∷ takers more)) ≡ carried)
-    go true t zero x onward =
-        let h : suc first ≤ part = leb-true (suc first) part t in
-        let same : carried - suc first ≡ left = cc in
-        (cc, omega (arith, div-le-self carried (length more + 1)))
-    go true t (suc next) x onward =
-        let h : suc first ≤ part = leb-true (suc first) part t in
-        let later = onward next x in
-        (later .0, omega (arith, div-le-self carried (length more + 1), sum-front (suc next) (wantOf (suc first ∷ takers more))))
-    go false t zero x onward = absurd (never-both x)
-    go false t (suc next) x onward = absurd (never-both x)
+-- behind a want above 0 all take a step
+takers-all : (least : ℕ) (order : List ℕ) → Rises (suc least) order → takers order ≡ order
+unfolding takers
+takers-all least [] up = refl
+takers-all least (zero ∷ more) up = absurd (omega (arith, up .0))
+takers-all least (suc want ∷ more) up = ap (λ (rest : List ℕ). suc want ∷ rest) (takers-all want more (up .1))
+
+pub takers-want : (order : List ℕ) (n : ℕ) → n < length (takers order) → 0 < wantOf (takers order) n
+unfolding takers
+takers-want [] n h = absurd (omega arith)
+takers-want (zero ∷ more) n h = takers-want more n h
+takers-want (suc want ∷ more) zero h = omega arith
+takers-want (suc want ∷ more) (suc n) h = takers-want more n (omega arith)
+
+-- each step is the one whose turn it is
+pub way-in-turn :
+    (least : ℕ) (order : List ℕ) (carried n : ℕ)
+    → Rises least order
+    → n < length (way order carried)
+    → getD (way order carried) n (Last 0) ≡ stepInTurn (takers order) carried n
+unfolding way takers carriedAfter
+way-in-turn least [] carried n up h = absurd (omega arith)
+way-in-turn least (zero ∷ more) carried n up h = way-in-turn 0 more carried n (up .1) h
+way-in-turn least (suc want ∷ more) carried n up h =
+    go (stepOf (suc want) (length more + 1) carried) refl n h (λ left next. way-in-turn (suc want) more left next (up .1))
+  where
+    all : takers more ≡ more
+    all = takers-all want more (up .1)
+
+    first : stepInTurn (suc want ∷ takers more) carried 0 ≡ stepOf (suc want) (length more + 1) carried
+    first =
+        let unmet : length (suc want ∷ takers more) - 0 ≡ length more + 1 = omega (arith, ap length all) in
+        let whole : carried - 0 ≡ carried = omega arith in
+        rw (unmet, whole)
+
+    go : (step : Step) → stepOf (suc want) (length more + 1) carried ≡ step → (n : ℕ)
+        → n < length (stepThen step (way more))
+        → ((left next : ℕ) → next < length (way more left) → getD (way more left) next (Last 0) ≡ stepInTurn (takers more) left next)
+        → getD (stepThen step (way more)) n (Last 0) ≡ stepInTurn (suc want ∷ takers more) carried n
+    go (Met met left) e zero x onward = sym (first ∙ e)
+    go (Met met left) e (suc next) x onward =
+        let unmet : length (suc want ∷ takers more) - suc next ≡ length (takers more) - next = omega arith in
+        let less : carried - sum (suc next) (wantOf (suc want ∷ takers more)) ≡ left - sum next (wantOf (takers more))
+        = omega (arith, step-met (suc want) (length more + 1) carried met left e, sum-front next (wantOf (suc want ∷ takers more))) in
+        onward left next (omega arith) ∙ rw (unmet, less)
+    go (Last level) e zero x onward = sym (first ∙ e)
+    go (Last level) e (suc next) x onward = absurd (omega arith)

@@ -1,5 +1,5 @@
--- Request 2026-03: how the level is found, "in at most one step a lead, from the wants taken smallest first". What the level is says
--- `levelOf`, which knows nothing of this. Definitions only. Document 02's allowance is the limit here.
+-- Request 2026-03: how the level is found, "in at most one step a lead, from the wants taken smallest first". `levelOf` says what the level
+-- is, and knows nothing of this. Definitions only. Document 02's allowance is the limit here.
 use mathlib.Core.Bool.{cond}
 use mathlib.Core.List.{List, [], _∷_}
 use Prim.Native.Nat.{ℕ, zero, suc, _+_, _-_, _/_, min, max}
@@ -25,8 +25,9 @@ takers [] = []
 takers (zero ∷ more) = takers more
 takers (suc want ∷ more) = suc want ∷ takers more
 
--- "The watts carried along are, after each step, the allowance less the wants met in full so far": over wants that take a step (`takers`)
--- these are, after n steps, the first n. Over all wants in order n counts those met, of which wants of 0 add nothing.
+-- "The watts carried along are, after each step, the allowance less the wants met in full so far": after n steps these are the first n of the
+-- wants in order that take a step (`takers`). Over all wants in order n counts those of 0 too, which take nothing off. `-` stops at 0; that it
+-- never has to is part of the claim (`Carries`).
 unfoldable pub carriedAfter : ℕ → List ℕ → ℕ → ℕ
 carriedAfter n order limit = limit - sum n (wantOf order)
 
@@ -36,16 +37,16 @@ unfoldable pub stepOf : ℕ → ℕ → ℕ → Step
 stepOf want unmet carried = cond (leb want (carried / unmet)) (Met want (carried - want)) (Last (carried / unmet))
 
 -- a step and, if it is not the last, those that go on from what it carries
-abbrev pub joined : Step → (ℕ → List Step) → List Step
-joined (Met want carried) onward = Met want carried ∷ onward carried
-joined (Last level) onward = Last level ∷ []
+abbrev pub stepThen : Step → (ℕ → List Step) → List Step
+stepThen (Met want carried) onward = Met want carried ∷ onward carried
+stepThen (Last level) onward = Last level ∷ []
 
 -- The way: all steps over wants in order, with the watts carried at first. Not yet met are a want and those behind it, as wants of 0 stand
 -- in front.
 unfoldable pub way : List ℕ → ℕ → List Step
 way [] carried = []
 way (zero ∷ more) carried = way more carried
-way (suc want ∷ more) carried = joined (stepOf (suc want) (length more + 1) carried) (way more)
+way (suc want ∷ more) carried = stepThen (stepOf (suc want) (length more + 1) carried) (way more)
 
 -- the level that the last step gives; where all are met it is the limit itself
 unfoldable pub levelFound : List Step → ℕ → ℕ

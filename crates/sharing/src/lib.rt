@@ -1,5 +1,5 @@
 // Sharing a power limit out: document 01, 'Dividing the allowance', in the way that request 2026-03 asks for. Wants and the limit are in
-// watts. Rests on nothing.
+// watts. Rests on common.
 ghost use mathlib.Core.List.{List};
 ghost use mathlib.Core.Path.{_≡_};
 ghost use Prim.Native.Nat.{ℕ, _+_, _<_, min, max};
@@ -23,7 +23,7 @@ fn greater(a: u32, b: u32) -> u32
 }
 
 // Smallest first. The smallest of all is the smaller one of two pairs' smaller, the largest the larger one of their larger; the other two
-// stand between them.
+// stand between them, the smaller one of these first.
 fn in_order(wants: [u32; PLACES]) -> [u32; PLACES]
     ensures { λ r. ⌜ r ≡ inOrder wants ⌝ }
 {
@@ -31,19 +31,18 @@ fn in_order(wants: [u32; PLACES]) -> [u32; PLACES]
     let high = greater(wants[0], wants[1]);
     let other_low = lesser(wants[2], wants[3]);
     let other_high = greater(wants[2], wants[3]);
+    let smallest = lesser(low, other_low);
     let between = greater(low, other_low);
     let other_between = lesser(high, other_high);
-    [
-        lesser(low, other_low),
-        lesser(between, other_between),
-        greater(between, other_between),
-        greater(high, other_high),
-    ]
+    let largest = greater(high, other_high);
+    let second = lesser(between, other_between);
+    let third = greater(between, other_between);
+    [smallest, second, third, largest]
 }
 
 // What a step comes to.
 enum Step {
-    // It meets a want in full, and carries on what is left. Which want it is only the claims look at.
+    // It meets a want in full, and carries on what is left. Only the claims look at which want it is.
     Met { want: u32, carried: u32 },
     // It is the last, and gives the level.
     Last { level: u32 },
@@ -69,7 +68,8 @@ fn take_step(want: u32, unmet: u32, carried: u32) -> Step
     }
 }
 
-// One step a place at most, and none where nothing is wanted.
+// One step a place at most, and none where nothing is wanted. Places that want nothing stand in front, so those not yet met are the place
+// whose turn it is and all behind it.
 fn found(order: [u32; PLACES], limit: u32) -> u32
     ensures { λ r. ⌜ r ≡ levelFound (way order limit) limit ⌝ }
 {

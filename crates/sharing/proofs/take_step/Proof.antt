@@ -3,7 +3,7 @@ use borrow.Author.Needs.{needs}
 use mathlib.Core.Path.{sym}
 use native.Mathlib.Nat.{div-le-self}
 use native.Mathlib.Omega.{arith}
-use Rattle.sharing.proofs.Way.{never-both}
+use Rattle.sharing.proofs.Way.{last-not-met}
 use Rattle.sharing.proofs.Steps.{step-meets, step-ends, carried-less}
 use Rattle.sharing.proofs.take_step.Statement.{statement}
 use Rattle.sharing.proofs.take_step.Tie as tie
@@ -11,7 +11,7 @@ use Rattle.sharing.proofs.take_step.Tie as tie
 returns : tie.Need-returns
 returns c =
     let a = c .before .args in
-    (sym (step-ends (a .want) (a .unmet) (a .carried) (c .if1 .taken)), λ order n limit met left next e x. absurd (never-both x))
+    (sym (step-ends (a .want) (a .unmet) (a .carried) (c .if1 .taken)), λ order n limit met left next e x. absurd (last-not-met x))
 
 sub-left : tie.Need-sub-left
 sub-left c = omega (arith, div-le-self (c .before .args .carried) (c .before .args .unmet))
