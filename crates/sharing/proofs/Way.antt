@@ -1,4 +1,4 @@
--- The way's laws: it comes to the level, it takes no step for a want of 0, and each step is the one whose turn it is. Assumes nothing.
+-- The way's laws: each step is the one whose turn it is, none is taken for a want of 0, and it comes to the level. Assumes nothing.
 use mathlib.Core.Bool.{Bool, true, false, cond}
 use mathlib.Core.List.{List, [], _∷_}
 use mathlib.Core.Logic.{_⊎_, inl, inr}
@@ -17,6 +17,85 @@ use Rattle.sharing.specs.declared.Step.the-variants.{Met, Last}
 use Rattle.sharing.proofs.Sums.{sumOfEach, sum-front, sum-of-each}
 use Rattle.sharing.proofs.Laws.{level-is}
 use Rattle.sharing.proofs.Order.{in-order-sum, Rises, rises-from-less, in-order-rises}
+
+pub last-not-met : {level want carried : ℕ} → Last level ≡ Met want carried → ⊥
+last-not-met e = let z : _≡_ {A = ℕ} 0 1 = cc in omega arith
+
+-- a step that is not the last meets its want, which is within the watts that come in
+pub step-met :
+    (want unmet carried met left : ℕ) → stepOf want unmet carried ≡ Met met left → (met ≡ want) × (left ≡ carried - want) × (want ≤ carried)
+unfolding stepOf
+step-met want unmet carried met left e = go (leb want (carried / unmet)) refl _ e
+  where
+    go : (b : Bool) → leb want (carried / unmet) ≡ b → (level : ℕ) → cond b (Met want (carried - want)) (Last level) ≡ Met met left
+        → (met ≡ want) × (left ≡ carried - want) × (want ≤ carried)
+    go true t level x = (cc, cc, omega (arith, leb-true want (carried / unmet) t, div-le-self carried unmet))
+    go false t level x = absurd (last-not-met x)
+
+-- behind a want above 0 all take a step
+takers-all : (least : ℕ) (order : List ℕ) → Rises (suc least) order → takers order ≡ order
+unfolding takers
+takers-all least [] up = refl
+takers-all least (zero ∷ more) up = absurd (omega (arith, up .0))
+takers-all least (suc want ∷ more) up = ap (λ (rest : List ℕ). suc want ∷ rest) (takers-all want more (up .1))
+
+pub takers-want : (order : List ℕ) (n : ℕ) → n < length (takers order) → 0 < wantOf (takers order) n
+unfolding takers
+takers-want [] n h = absurd (omega arith)
+takers-want (zero ∷ more) n h = takers-want more n h
+takers-want (suc want ∷ more) zero h = omega arith
+takers-want (suc want ∷ more) (suc n) h = takers-want more n (omega arith)
+
+-- each step is the one whose turn it is
+pub way-in-turn :
+    (least : ℕ) (order : List ℕ) (carried n : ℕ)
+    → Rises least order
+    → n < length (way order carried)
+    → getD (way order carried) n (Last 0) ≡ stepInTurn (takers order) carried n
+unfolding way takers carriedAfter
+way-in-turn least [] carried n up h = absurd (omega arith)
+way-in-turn least (zero ∷ more) carried n up h = way-in-turn 0 more carried n (up .1) h
+way-in-turn least (suc want ∷ more) carried n up h =
+    go (stepOf (suc want) (length more + 1) carried) refl n h (λ left next. way-in-turn (suc want) more left next (up .1))
+  where
+    all : takers more ≡ more
+    all = takers-all want more (up .1)
+
+    first : stepInTurn (suc want ∷ takers more) carried 0 ≡ stepOf (suc want) (length more + 1) carried
+    first =
+        let unmet : length (suc want ∷ takers more) - 0 ≡ length more + 1 = omega (arith, ap length all) in
+        let whole : carried - 0 ≡ carried = omega arith in
+        rw (unmet, whole)
+
+    go : (step : Step) → stepOf (suc want) (length more + 1) carried ≡ step → (n : ℕ)
+        → n < length (stepThen step (way more))
+        → ((left next : ℕ) → next < length (way more left) → getD (way more left) next (Last 0) ≡ stepInTurn (takers more) left next)
+        → getD (stepThen step (way more)) n (Last 0) ≡ stepInTurn (suc want ∷ takers more) carried n
+    go (Met met left) e zero x onward = sym (first ∙ e)
+    go (Met met left) e (suc next) x onward =
+        let unmet : length (suc want ∷ takers more) - suc next ≡ length (takers more) - next = omega arith in
+        let less : carried - sum (suc next) (wantOf (suc want ∷ takers more)) ≡ left - sum next (wantOf (takers more))
+        = omega (arith, step-met (suc want) (length more + 1) carried met left e, sum-front next (wantOf (suc want ∷ takers more))) in
+        onward left next (omega arith) ∙ rw (unmet, less)
+    go (Last level) e zero x onward = sym (first ∙ e)
+    go (Last level) e (suc next) x onward = absurd (omega arith)
+
+-- a want of 0 takes no step
+pub way-length : (order : List ℕ) (carried : ℕ) → length (way order carried) ≤ length (takers order)
+unfolding way takers
+way-length [] carried = omega arith
+way-length (zero ∷ more) carried = way-length more carried
+way-length (suc want ∷ more) carried = go (stepOf (suc want) (length more + 1) carried) (way-length more)
+  where
+    go : (step : Step) → ((next : ℕ) → length (way more next) ≤ length (takers more)) → length (stepThen step (way more)) ≤ suc (length (takers more))
+    go (Met first next) onward = omega (arith, onward next)
+    go (Last level) onward = omega arith
+
+pub takers-length : (order : List ℕ) → length (takers order) ≡ sumOfEach oneIfAny order
+unfolding takers
+takers-length [] = refl
+takers-length (zero ∷ more) = omega (arith, takers-length more)
+takers-length (suc want ∷ more) = omega (arith, takers-length more)
 
 -- what wants come to at a level
 abbrev totalOver : List ℕ → ℕ → ℕ
@@ -148,82 +227,3 @@ way-level wants limit =
         is-level-same (λ level. 0 + totalOver (inOrder wants) level) (totalAt (length wants) (wantOf wants))
         (λ level. omega (arith, total-over wants level))
         (way-found limit (inOrder wants) (λ level. 0) limit 0 0 none (omega arith) (omega arith) (in-order-rises wants))
-
--- a want of 0 takes no step
-pub way-length : (order : List ℕ) (carried : ℕ) → length (way order carried) ≤ length (takers order)
-unfolding way takers
-way-length [] carried = omega arith
-way-length (zero ∷ more) carried = way-length more carried
-way-length (suc want ∷ more) carried = go (stepOf (suc want) (length more + 1) carried) (way-length more)
-  where
-    go : (step : Step) → ((next : ℕ) → length (way more next) ≤ length (takers more)) → length (stepThen step (way more)) ≤ suc (length (takers more))
-    go (Met first next) onward = omega (arith, onward next)
-    go (Last level) onward = omega arith
-
-pub takers-length : (order : List ℕ) → length (takers order) ≡ sumOfEach oneIfAny order
-unfolding takers
-takers-length [] = refl
-takers-length (zero ∷ more) = omega (arith, takers-length more)
-takers-length (suc want ∷ more) = omega (arith, takers-length more)
-
-pub last-not-met : {level want carried : ℕ} → Last level ≡ Met want carried → ⊥
-last-not-met e = let z : _≡_ {A = ℕ} 0 1 = cc in omega arith
-
--- a step that is not the last meets its want, which is within the watts that come in
-pub step-met :
-    (want unmet carried met left : ℕ) → stepOf want unmet carried ≡ Met met left → (met ≡ want) × (left ≡ carried - want) × (want ≤ carried)
-unfolding stepOf
-step-met want unmet carried met left e = go (leb want (carried / unmet)) refl e
-  where
-    go : (b : Bool) → leb want (carried / unmet) ≡ b → cond b (Met want (carried - want)) (Last (carried / unmet)) ≡ Met met left
-        → (met ≡ want) × (left ≡ carried - want) × (want ≤ carried)
-    go true t x = (cc, cc, omega (arith, leb-true want (carried / unmet) t, div-le-self carried unmet))
-    go false t x = absurd (last-not-met x)
-
--- behind a want above 0 all take a step
-takers-all : (least : ℕ) (order : List ℕ) → Rises (suc least) order → takers order ≡ order
-unfolding takers
-takers-all least [] up = refl
-takers-all least (zero ∷ more) up = absurd (omega (arith, up .0))
-takers-all least (suc want ∷ more) up = ap (λ (rest : List ℕ). suc want ∷ rest) (takers-all want more (up .1))
-
-pub takers-want : (order : List ℕ) (n : ℕ) → n < length (takers order) → 0 < wantOf (takers order) n
-unfolding takers
-takers-want [] n h = absurd (omega arith)
-takers-want (zero ∷ more) n h = takers-want more n h
-takers-want (suc want ∷ more) zero h = omega arith
-takers-want (suc want ∷ more) (suc n) h = takers-want more n (omega arith)
-
--- each step is the one whose turn it is
-pub way-in-turn :
-    (least : ℕ) (order : List ℕ) (carried n : ℕ)
-    → Rises least order
-    → n < length (way order carried)
-    → getD (way order carried) n (Last 0) ≡ stepInTurn (takers order) carried n
-unfolding way takers carriedAfter
-way-in-turn least [] carried n up h = absurd (omega arith)
-way-in-turn least (zero ∷ more) carried n up h = way-in-turn 0 more carried n (up .1) h
-way-in-turn least (suc want ∷ more) carried n up h =
-    go (stepOf (suc want) (length more + 1) carried) refl n h (λ left next. way-in-turn (suc want) more left next (up .1))
-  where
-    all : takers more ≡ more
-    all = takers-all want more (up .1)
-
-    first : stepInTurn (suc want ∷ takers more) carried 0 ≡ stepOf (suc want) (length more + 1) carried
-    first =
-        let unmet : length (suc want ∷ takers more) - 0 ≡ length more + 1 = omega (arith, ap length all) in
-        let whole : carried - 0 ≡ carried = omega arith in
-        rw (unmet, whole)
-
-    go : (step : Step) → stepOf (suc want) (length more + 1) carried ≡ step → (n : ℕ)
-        → n < length (stepThen step (way more))
-        → ((left next : ℕ) → next < length (way more left) → getD (way more left) next (Last 0) ≡ stepInTurn (takers more) left next)
-        → getD (stepThen step (way more)) n (Last 0) ≡ stepInTurn (suc want ∷ takers more) carried n
-    go (Met met left) e zero x onward = sym (first ∙ e)
-    go (Met met left) e (suc next) x onward =
-        let unmet : length (suc want ∷ takers more) - suc next ≡ length (takers more) - next = omega arith in
-        let less : carried - sum (suc next) (wantOf (suc want ∷ takers more)) ≡ left - sum next (wantOf (takers more))
-        = omega (arith, step-met (suc want) (length more + 1) carried met left e, sum-front next (wantOf (suc want ∷ takers more))) in
-        onward left next (omega arith) ∙ rw (unmet, less)
-    go (Last level) e zero x onward = sym (first ∙ e)
-    go (Last level) e (suc next) x onward = absurd (omega arith)
