@@ -230,7 +230,7 @@ static inline float post_get_float(const uint8_t *place) {
 /*
  * The energy is what the lead was commanded since its latest start: amperes times the threshold's
  * volts, summed over the ticks done. So it is no meter's kilowatt-hours, no bound on what flowed
- * (the meter's amperes are held to the rating plus 5 A, see POST_REASON_OVERCURRENT, not to the
+ * (the meter's amperes are held to the rating plus 2.5 A, see POST_REASON_OVERCURRENT, not to the
  * command) and nothing to bill by. Each tick counts as a tenth of a second, however long it took.
  * The start (phase 0 to 1) sets it to 0, and nothing else does but setup: it is kept while the lead
  * is ended and idle. A host that wants it of each charge reads it before the next start, best when
@@ -272,7 +272,8 @@ static inline float post_get_float(const uint8_t *place) {
 #define POST_CONTACT_GROUND_FAULT     0x40 /* "leak trip" */
 
 /* Readings present; bits 3 to 7 are 0. The bytes of a missing one may hold anything. Volts and
- * amperes are good together: both present, 0 to 1000 V and 0 to 400 A. */
+ * amperes are good together: both present, 0 to 1000 V and 0 to 400 A. They are judged in tenths, of
+ * volts at the connector and of amperes, rounded up. */
 #define POST_PRESENT_VOLTS      0x01
 #define POST_PRESENT_AMPERES    0x02
 #define POST_PRESENT_INSULATION 0x04
@@ -329,8 +330,8 @@ static inline float post_get_float(const uint8_t *place) {
 #define POST_H108_RATED_AMPERES  3
 #define POST_H108_THRESHOLD      4 /* 2 bytes, volts; 0 until it is known */
 #define POST_H109_PROTOCOL       0 /* always 2 */
-#define POST_H109_VOLTS          1 /* 2 bytes, at the connector */
-#define POST_H109_AMPERES        3
+#define POST_H109_VOLTS          1 /* 2 bytes, at the connector, rounded up */
+#define POST_H109_AMPERES        3 /* rounded up, at most 255 */
 #define POST_H109_FLAGS          5 /* POST_FLAG_ bits */
 #define POST_H109_TIME_TENS      6 /* remaining time, tens of seconds or POST_H101_USE_MINUTES */
 #define POST_H109_TIME_MINUTES   7
@@ -365,7 +366,7 @@ static inline float post_get_float(const uint8_t *place) {
 #define POST_REASON_PERMISSION_OPEN      14 /* the car's permission wire opened */
 #define POST_REASON_BAD_READING          15 /* volts or amperes missing or out of range */
 #define POST_REASON_OVERVOLTAGE          16 /* connector volts above the threshold */
-#define POST_REASON_OVERCURRENT          17 /* amperes above rated + 5 */
+#define POST_REASON_OVERCURRENT          17 /* tenths of amperes above 10 * rated + 25 */
 #define POST_REASON_UNLOCKED             18 /* the lock contact opened */
 #define POST_REASON_CAR_SILENT           19 /* no H'102 for ten ticks */
 #define POST_REASON_CAR_FAULT            20 /* reported by the car */

@@ -7,10 +7,11 @@ use std::ops::RangeInclusive;
 use second::frames::{Heard, FAULTS, FRAME_LENGTH, MOST_AMPERES_SHOWN, RECORD_BYTES, SYSTEM_FAULT};
 use second::lead::*;
 use second::post::*;
-use second::readings::{MOST_AMPERES, MOST_CABLE_RESISTANCE, MOST_VOLTS};
+use second::readings::{Tenths, MOST_AMPERES, MOST_CABLE_RESISTANCE, MOST_VOLTS};
 use second::sharing::MOST_LEADS;
 use shared::coverage::{pairs, Counts, Fact, Table};
 use shared::lead_input::KNOWN;
+use shared::meter::largest;
 use shared::numbers::{Numbers, TINY};
 use shared::post::number;
 use shared::stops::reasons;
@@ -277,11 +278,11 @@ pub fn of_turns() -> Table<Turn> {
         }
     }
     for phase in [4, 9] {
-        table.row(REACHED, format!("safe volts end {phase}"), move |turn| turn.moved_from(phase) && turn.has_volts(SAFE_VOLTS));
-        table.row(REACHED, format!("safe volts + 1 don't end {phase}"), move |turn|
-            turn.stayed_in(phase) && turn.has_volts(SAFE_VOLTS + 1));
+        table.row(REACHED, format!("safe volts end {phase}"), move |turn| turn.moved_from(phase) && turn.has_volts(SAFE_VOLTS_IN_TENTHS));
+        table.row(REACHED, format!("a tenth more than safe volts doesn't end {phase}"), move |turn|
+            turn.stayed_in(phase) && turn.has_volts(SAFE_VOLTS_IN_TENTHS + Tenths(1)));
         table.row(REACHED, format!("safe volts exactly, and 0 A, in {phase}"), move |turn|
-            turn.before.phase == phase && turn.value(VOLTS) == Some(SAFE_VOLTS.into()) && turn.value(AMPERES) == Some(0.0));
+            turn.before.phase == phase && turn.value(VOLTS) == Some(largest(SAFE_VOLTS_IN_TENTHS)) && turn.value(AMPERES) == Some(0.0));
     }
     for bit in 0..FAULTS.count_ones() {
         table.row(REACHED, format!("stop 20 for fault {bit} alone"), move |turn| turn.stopped_for_faults(1 << bit, 0));
@@ -495,7 +496,7 @@ impl Turn {
         (self.input[input_place::PRESENT] & bit != 0).then(|| f32::from_le_bytes(*bytes))
     }
 
-    fn has_volts(&self, volts: u16) -> bool {
+    fn has_volts(&self, volts: Tenths) -> bool {
         self.measured.is_some_and(|of| of.connector_volts == volts)
     }
 
@@ -563,8 +564,8 @@ const TURNS: &[Fact<Turn>] = &[
     (REACHED, "stop 20 for a system fault alone", |turn| turn.stopped_for_faults(0, SYSTEM_FAULT)),
 
     (REACHED, "age 29 doesn't end 7", |turn| turn.stayed_in(7) && turn.before.age == RAMP_DOWN_LIMIT - 1),
-    (REACHED, "7 to 8 at age 30 with more than 4 A", |turn| turn.moved_from(7)
-        && turn.before.age == RAMP_DOWN_LIMIT && turn.measured.is_some_and(|of| of.amperes > SAFE_AMPERES)),
+    (REACHED, "7 to 8 at age 30 with more than 49 tenths", |turn| turn.moved_from(7)
+        && turn.before.age == RAMP_DOWN_LIMIT && turn.measured.is_some_and(|of| of.amperes > SAFE_AMPERES_IN_TENTHS)),
     (REACHED, "age 39 doesn't end 8", |turn| turn.stayed_in(8) && turn.before.age == CONTACTOR_OPENING_LIMIT - 1),
     (REACHED, "8 to 9 at age 40, contactor closed", |turn| turn.moved_from(8)
         && turn.before.age == CONTACTOR_OPENING_LIMIT && !turn.after.car.contactor_open()),
@@ -585,19 +586,25 @@ const TURNS: &[Fact<Turn>] = &[
     (REACHED, "a wrong length after a right one", |turn| turn.twice(false)),
     (REACHED, "another identifier", |turn| turn.frames().any(|record| !KNOWN.contains(&number(record, 0)))),
 
-    (REACHED, "connector volts at the threshold in 5-7", |turn| turn.began_in(5..=7) && turn.has_volts(turn.before.threshold)),
-    (REACHED, "connector volts 1 above the threshold", |turn| turn.stopped_for(16) && turn.has_volts(turn.before.threshold + 1)),
+    (REACHED, "connector volts at the threshold in 5-7", |turn| turn.began_in(5..=7) && turn.has_volts(turn.standing.most_volts())),
+    (REACHED, "connector volts a tenth above the threshold", |turn| turn.stopped_for(16)
+        && turn.has_volts(turn.standing.most_volts() + Tenths(1))),
     (REACHED, "connector volts 0 of a negative difference", |turn| turn.measured.is_some()
         && turn.value(AMPERES).map(|amperes| turn.standing.rating.cable_resistance * amperes) > turn.value(VOLTS)),
-    (REACHED, "amperes at rated + 5 in 5-7", |turn| turn.began_in(5..=7) && turn.value(AMPERES) == Some(turn.standing.most_amperes())),
-    (REACHED, "amperes just above rated + 5", |turn| turn.stopped_for(17)
+    (REACHED, "amperes at rated + 2.5 in 5-7", |turn| turn.began_in(5..=7) && turn.value(AMPERES) == Some(turn.standing.most_amperes())),
+    (REACHED, "amperes just above rated + 2.5", |turn| turn.stopped_for(17)
         && turn.value(AMPERES) == Some(turn.standing.most_amperes().next_up())),
     (REACHED, "amperes above 255 shown as 255", |turn| matches!(turn.after.phase, 1..=9)
-        && turn.measured.is_some_and(|of| of.amperes > MOST_AMPERES_SHOWN) && u16::from(turn.h109(3)) == MOST_AMPERES_SHOWN),
-    (REACHED, "4 A end 7", |turn| turn.moved_from(7) && turn.value(AMPERES) == Some(SAFE_AMPERES.into())
+        && turn.measured.is_some_and(|of| of.amperes > Tenths::of_whole(MOST_AMPERES_SHOWN)) && u16::from(turn.h109(3)) == MOST_AMPERES_SHOWN),
+    (REACHED, "49 tenths end 7", |turn| turn.moved_from(7) && turn.value(AMPERES) == Some(largest(SAFE_AMPERES_IN_TENTHS))
         && turn.before.age < RAMP_DOWN_LIMIT),
-    (REACHED, "just above 4 A doesn't end 7", |turn| turn.stayed_in(7) && turn.before.command == 0
-        && turn.value(AMPERES) == Some(f32::from(SAFE_AMPERES).next_up())),
+    // The float nearest to 4.9. Ten times it, worked out in f32, would be 49.
+    (REACHED, "4.9 A, which are 50 tenths, don't end 7", |turn| turn.stayed_in(7) && turn.before.command == 0
+        && turn.value(AMPERES) == Some(largest(SAFE_AMPERES_IN_TENTHS).next_up())),
+    (REACHED, "H'109 with volts and amperes rounded up", |turn| matches!(turn.after.phase, 1..=9)
+        && turn.measured.is_some_and(|of| of.connector_volts.0 % 10 != 0 && of.amperes.0 % 10 != 0)),
+    (REACHED, "H'109 with whole volts and amperes above 0", |turn| matches!(turn.after.phase, 1..=9)
+        && turn.measured.is_some_and(|of| of.connector_volts.0 % 10 == 0 && of.amperes.0 % 10 == 0 && of.connector_volts.min(of.amperes).0 > 0)),
     (REACHED, "no good reading in 9", |turn| turn.stayed_in(9) && turn.measured.is_none()),
     (REACHED, "insulation at its least", |turn| turn.moved_from(3) && turn.value(OHMS) == Some(turn.standing.least_ohms())),
     (REACHED, "insulation just below its least", |turn| turn.stopped_for(27)

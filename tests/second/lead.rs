@@ -6,7 +6,7 @@
 //! tick, but for the energy, which is not shown.
 
 use crate::frames::{self, CarStatus, ChargerFlags, ChargingTime, Record, Ticks};
-use crate::readings::{insulation_holds, Measured, Meter, Reading};
+use crate::readings::{insulation_holds, Measured, Meter, Reading, Tenths};
 
 pub const STATE_BYTES: usize = 32;
 pub const INPUT_BYTES: usize = 104;
@@ -100,16 +100,17 @@ pub const REASON_NONE: u8 = 0;
 
 /// Question 21, and the least threshold that is kept.
 pub const LEAST_VOLTS: u16 = 50;
-/// Question 17: "rated + 5".
-pub const AMPERES_OVER_RATED: u16 = 5;
+/// 2026-04: "Question 17 allows rated + 2.5 A."
+pub const AMPERES_OVER_RATED_IN_TENTHS: Tenths = Tenths(25);
 /// Question 19: "silence below 10".
 pub const SILENCE_LIMIT: u8 = 10;
 /// Question 28, phases 1 to 5; there is no phase 0 in its bracket.
 pub const AGE_LIMITS: [u32; 6] = [0, 100, 20, 150, 50, 100];
 /// The moves 4 to 5 and 9 to 10: "connector volts at most 10".
-pub const SAFE_VOLTS: u16 = 10;
-/// The move 7 to 8: "amperes at most 4, or age 30 or more".
-pub const SAFE_AMPERES: u16 = 4;
+pub const SAFE_VOLTS_IN_TENTHS: Tenths = Tenths::of_whole(10);
+/// The move 7 to 8. 2026-04: "phase 7's ampere limit is 49 tenths."
+pub const SAFE_AMPERES_IN_TENTHS: Tenths = Tenths(49);
+/// The move 7 to 8: "or age 30 or more".
 pub const RAMP_DOWN_LIMIT: u32 = 30;
 /// The move 8 to 9: "age 40 or more".
 pub const CONTACTOR_OPENING_LIMIT: u32 = 40;
@@ -385,7 +386,7 @@ pub const QUESTIONS: [Question; 19] = [
     question(13, URGENT, 1, 8, |now| !now.input.contacts.ground_fault()),
     question(14, URGENT, 2, 7, |now| now.input.contacts.charge_permission()),
     question(15, URGENT, 3, 7, |now| now.input.measured.is_some()),
-    question(16, URGENT, 5, 7, |now| now.connector_volts_at_most(now.lead.threshold)),
+    question(16, URGENT, 5, 7, |now| now.connector_volts_at_most(Tenths::of_whole(now.lead.threshold))),
     question(17, URGENT, 5, 7, |now| now.amperes_at_most(now.most_amperes())),
     question(18, URGENT, 3, 7, |now| now.input.contacts.connector_lock()),
     question(19, ORDINARY, 2, 6, |now| now.lead.silence < SILENCE_LIMIT),
@@ -402,21 +403,22 @@ pub const QUESTIONS: [Question; 19] = [
 ];
 
 impl Now<'_> {
-    fn connector_volts_at_most(&self, volts: u16) -> bool {
+    /// 2026-04: "The 10 V limits and question 16 compare in tenths."
+    fn connector_volts_at_most(&self, volts: Tenths) -> bool {
         self.input
             .measured
             .is_some_and(|measured| measured.connector_volts <= volts)
     }
 
-    fn amperes_at_most(&self, amperes: u16) -> bool {
+    fn amperes_at_most(&self, amperes: Tenths) -> bool {
         self.input
             .measured
             .is_some_and(|measured| measured.amperes <= amperes)
     }
 
-    /// Question 17: "rated + 5".
-    fn most_amperes(&self) -> u16 {
-        u16::from(self.rating.amperes) + AMPERES_OVER_RATED
+    /// Question 17, 2026-04: "rated + 2.5 A".
+    fn most_amperes(&self) -> Tenths {
+        Tenths::of_whole(self.rating.amperes.into()) + AMPERES_OVER_RATED_IN_TENTHS
     }
 
     /// Question 21, asked once H'100 and H'102 are seen.
@@ -484,12 +486,12 @@ const MOVES: [Move; 10] = [
         && now.input.contacts.charge_permission() && now.lead.car.enabled()),
     a_move(2, 3, |now| now.input.contacts.connector_lock()),
     a_move(3, 4, |now| matches!(now.input.insulation_resistance, Reading::Value(_))),
-    a_move(4, 5, |now| now.connector_volts_at_most(SAFE_VOLTS)),
+    a_move(4, 5, |now| now.connector_volts_at_most(SAFE_VOLTS_IN_TENTHS)),
     a_move(5, 6, |now| !now.lead.car.contactor_open()),
-    a_move(7, 8, |now| (now.lead.command == 0 && now.amperes_at_most(SAFE_AMPERES))
+    a_move(7, 8, |now| (now.lead.command == 0 && now.amperes_at_most(SAFE_AMPERES_IN_TENTHS))
         || now.lead.age >= RAMP_DOWN_LIMIT),
     a_move(8, 9, |now| now.lead.car.contactor_open() || now.lead.age >= CONTACTOR_OPENING_LIMIT),
-    a_move(9, 10, |now| now.connector_volts_at_most(SAFE_VOLTS)),
+    a_move(9, 10, |now| now.connector_volts_at_most(SAFE_VOLTS_IN_TENTHS)),
     a_move(10, 0, |now| !now.input.contacts.plug()),
 ];
 
@@ -687,8 +689,11 @@ impl Lead {
     }
 
     fn charger_status(&self, input: &Input) -> frames::Data {
+        // 2026-04: "H'109 still carries whole numbers, rounded up from tenths."
+        // Those of a good reading are at most 1000.
+        let whole = |tenths: Tenths| tenths.rounded_up() as u16;
         let (volts, amperes) = match input.measured {
-            Some(measured) => (measured.connector_volts, measured.amperes),
+            Some(measured) => (whole(measured.connector_volts), whole(measured.amperes)),
             None => (0, 0),
         };
         let flags = ChargerFlags {

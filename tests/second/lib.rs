@@ -1,10 +1,10 @@
 //! The post's lead controller and power divider, written a second time.
 //!
-//! It describes document 01, with requests 2026-01 to 2026-03 of document 02, in
+//! It describes document 01, with requests 2026-01 to 2026-04 of document 02, in
 //! plain code, in the order of document 01, and gives the expected answers for
 //! tests. Each layer knows only those above it in this list:
 //!
-//! - `readings`: what the meter board gives, and the whole numbers made of it
+//! - `readings`: what the meter board gives, and the tenths made of it
 //! - `frames`: what the car sends and what the post sends
 //! - `lead`: one cable with its connector
 //! - `sharing`: the level up to which every want is met

@@ -11,6 +11,7 @@ mod receiver;
 mod refusals;
 mod sessions;
 mod sharing;
+mod tenths;
 
 use crate::frames::{CONTACTOR_OPEN, ENABLED};
 use crate::inputs::LeadInput;
@@ -134,6 +135,17 @@ fn generator() -> impl FnMut() -> u8 {
         seed = seed.wrapping_mul(6_364_136_223_846_793_005).wrapping_add(1);
         (seed >> 56) as u8
     }
+}
+
+/// Floats from 0 to 1000: those beside every tenth, and some of all sizes between.
+pub(crate) fn floats() -> impl Iterator<Item = f32> {
+    const MOST: u32 = 1000.0f32.to_bits();
+    // The bits of floats that are not negative come in the order of the floats.
+    let beside = (0..=10_000).flat_map(|tenth| {
+        let nearest = (tenth as f32 / 10.0).to_bits();
+        nearest.saturating_sub(3)..=MOST.min(nearest + 3)
+    });
+    beside.chain((0..=MOST).step_by(9_973)).map(f32::from_bits)
 }
 
 /// Rows of a phase, a change of its case, and what is then shown.

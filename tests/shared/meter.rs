@@ -1,7 +1,7 @@
 //! Readings near the edges of what is asked about them.
 
-use second::lead::{SAFE_AMPERES, SAFE_VOLTS};
-use second::readings::{MOST_AMPERES, MOST_VOLTS};
+use second::lead::{SAFE_AMPERES_IN_TENTHS, SAFE_VOLTS_IN_TENTHS};
+use second::readings::{Tenths, MOST_AMPERES, MOST_VOLTS};
 
 use crate::dice::Dice;
 use crate::numbers::{SIGNALLING, TINY};
@@ -28,23 +28,35 @@ pub fn odd(dice: &mut Dice) -> f32 {
     }
 }
 
+/// The largest float that is no more than so many tenths. Few tenths are floats: the float nearest
+/// to 4.9 is above it.
+pub fn largest(tenths: Tenths) -> f32 {
+    let exact = f64::from(tenths.0) / 10.0;
+    let nearest = exact as f32;
+    if f64::from(nearest) > exact {
+        nearest.next_down()
+    } else {
+        nearest
+    }
+}
+
 /// On either side of a value.
 pub fn around(value: f32, dice: &mut Dice) -> f32 {
     let [up, down] = [value.next_up(), value.next_down()];
-    let steps = [0.5, -0.5, 1.0, -1.0].map(|step| value + step);
-    dice.pick(&[[value, value, up, down], steps].concat())
+    let steps = [0.1, -0.1, 0.5, -0.5, 1.0, -1.0].map(|step| value + step);
+    dice.pick(&[&[value, value, up, down], &steps[..]].concat())
 }
 
 /// At a value or below it.
 fn up_to(value: f32, dice: &mut Dice) -> f32 {
-    dice.pick(&[value, value, value.next_down(), value - 0.5, value - 1.0])
+    dice.pick(&[value, value, value.next_down(), value - 0.1, value - 0.5, value - 1.0])
 }
 
 /// A reading at an edge of what this phase asks. In phases 5 to 7 nearly all pass, so that charging
 /// goes on.
 pub fn at_an_edge(scene: Scene, standing: &Standing, dice: &mut Dice) -> Scene {
     let amperes = dice.pick(&SMALL);
-    let safe = standing.meter_volts(SAFE_VOLTS, amperes);
+    let safe = standing.meter_volts(SAFE_VOLTS_IN_TENTHS, amperes);
     match standing.phase {
         3 => {
             let least = standing.least_ohms();
@@ -57,10 +69,10 @@ pub fn at_an_edge(scene: Scene, standing: &Standing, dice: &mut Dice) -> Scene {
         4 => scene.reads(around(safe, dice).max(0.0), amperes),
         5 | 6 => {
             let amperes = up_to(standing.most_amperes(), dice);
-            let most = standing.meter_volts(standing.threshold, amperes);
+            let most = standing.meter_volts(standing.most_volts(), amperes);
             scene.reads(up_to(most, dice).clamp(0.0, MOST_VOLTS), amperes)
         }
-        7 => scene.reads(20.25, around(f32::from(SAFE_AMPERES), dice)),
+        7 => scene.reads(20.25, around(largest(SAFE_AMPERES_IN_TENTHS), dice)),
         9 if dice.one_in(2) => scene.reads(around(safe, dice), amperes),
         // Any reading will do.
         _ => scene.reads(odd(dice), odd(dice)),
@@ -92,14 +104,14 @@ pub fn not_good(mut scene: Scene, dice: &mut Dice) -> Scene {
 pub fn above_the_threshold(scene: Scene, standing: &Standing, dice: &mut Dice) -> Scene {
     let small = dice.pick(&SMALL);
     let amperes = dice.pick(&[small, small, standing.most_amperes() + 1.0]);
-    let most = standing.meter_volts(standing.threshold, amperes);
-    let volts = dice.pick(&[most.next_up(), most + 0.25, most + 1.0, MOST_VOLTS]);
+    let most = standing.meter_volts(standing.most_volts(), amperes);
+    let volts = dice.pick(&[most.next_up(), most + 0.05, most + 0.25, most + 1.0, MOST_VOLTS]);
     scene.reads(volts, amperes)
 }
 
 /// Question 17 gets a no.
 pub fn above_the_amperes(scene: Scene, standing: &Standing, dice: &mut Dice) -> Scene {
     let most = standing.most_amperes();
-    let amperes = dice.pick(&[most.next_up(), most + 0.5, most + 1.0, MOST_AMPERES]);
+    let amperes = dice.pick(&[most.next_up(), most + 0.1, most + 0.5, most + 2.5, MOST_AMPERES]);
     scene.reads(30.0, amperes)
 }

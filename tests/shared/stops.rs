@@ -1,8 +1,8 @@
 //! The stop questions: how each gets a no.
 
 use second::frames::{CONTACTOR_OPEN, ENABLED, FAULTS, NOT_IN_PARK, STOP_REQUEST, SYSTEM_FAULT};
-use second::lead::{contact, Question, Rating, AMPERES_OVER_RATED, LEAST_VOLTS, QUESTIONS};
-use second::readings::INSULATION_OHMS_PER_VOLT;
+use second::lead::{contact, Question, Rating, AMPERES_OVER_RATED_IN_TENTHS, LEAST_VOLTS, QUESTIONS};
+use second::readings::{Tenths, INSULATION_OHMS_PER_VOLT};
 
 use crate::dice::Dice;
 use crate::meter;
@@ -29,7 +29,12 @@ impl Standing {
     }
 
     pub fn most_amperes(&self) -> f32 {
-        f32::from(u16::from(self.rating.amperes) + AMPERES_OVER_RATED)
+        meter::largest(Tenths::of_whole(self.rating.amperes.into()) + AMPERES_OVER_RATED_IN_TENTHS)
+    }
+
+    /// At the connector.
+    pub fn most_volts(&self) -> Tenths {
+        Tenths::of_whole(self.threshold)
     }
 
     pub fn least_ohms(&self) -> f32 {
@@ -37,8 +42,8 @@ impl Standing {
     }
 
     /// What the meter shows, about, when the connector has these volts.
-    pub fn meter_volts(&self, connector: u16, amperes: f32) -> f32 {
-        f32::from(connector) + self.rating.cable_resistance * amperes
+    pub fn meter_volts(&self, connector: Tenths, amperes: f32) -> f32 {
+        meter::largest(connector) + self.rating.cable_resistance * amperes
     }
 }
 

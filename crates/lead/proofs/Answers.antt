@@ -10,7 +10,7 @@ use lib.Dec.{T, T-not, not-T, leb, ltb, eqb, eqb→eq}
 use borrow.Author.Tests.{ne-eqb}
 use lib.ListN.{getD}
 use lib.Ieee.Fits.{and-l, and-r}
-use Rattle.readings.specs.Readings.{insulated}
+use Rattle.readings.specs.Readings.{atMost, insulated}
 use Rattle.frames.specs.Heard.{signalsOf}
 use Rattle.frames.specs.Times.{chargingTicks}
 use Rattle.common.specs.Tests.{between}
@@ -137,8 +137,8 @@ pub record UrgentYes (c : Ratings) (i : Input) (s : Lead) : Type 0 where
   pub no-ground-fault : T (between 1 8 (s .stage .phase)) → T (not (i .contacts .leakage))
   pub permission-closed : T (between 2 7 (s .stage .phase)) → T (i .contacts .permission)
   pub reading-good : T (between 3 7 (s .stage .phase)) → T (meterOf (i .reading) .good)
-  pub volts-in-range : T (between 5 7 (s .stage .phase)) → T (leb (meterOf (i .reading) .volts) (mostVolts (s .threshold)))
-  pub amperes-in-range : T (between 5 7 (s .stage .phase)) → T (leb (meterOf (i .reading) .amperes) (mostAmperes (c .amperes)))
+  pub volts-in-range : T (between 5 7 (s .stage .phase)) → T (atMost (meterOf (i .reading) .volts) (mostVolts (s .threshold)))
+  pub amperes-in-range : T (between 5 7 (s .stage .phase)) → T (atMost (meterOf (i .reading) .amperes) (mostAmperes (c .amperes)))
   pub lock-closed : T (between 3 7 (s .stage .phase)) → T (i .contacts .lock)
 
 -- The answers of questions 19 to 29. `car` is what the lead knows of the car once it has heard the tick's frames.

@@ -6,6 +6,7 @@ use native.Mathlib.Omega.{arith}
 use lib.Dec.{T, leb, eqb, eqb→eq}
 use lib.Ieee.Fits.{and-r}
 use borrow.Author.Tests.{eq-eqb, ne-eqb}
+use Rattle.readings.specs.Readings.{atMost}
 use Rattle.frames.specs.Heard.{signalsOf}
 use Rattle.common.specs.Tests.{between}
 use Rattle.lead.specs.Names.{handshake, locking}
@@ -42,11 +43,11 @@ pub record MoveMet (i : Input) (s : Lead) (car : Car) : Type 0 where
       → T (car .battery .seen && car .time .seen && car .status .seen && i .contacts .permission && signalsOf (car .status .value) .enabled)
   pub out-of-2 : s .stage .phase ≡ 2 → T (i .contacts .lock)
   pub out-of-3 : s .stage .phase ≡ 3 → T (isPresent (i .insulation))
-  pub out-of-4 : s .stage .phase ≡ 4 → T (leb (meterOf (i .reading) .volts) dischargedVolts)
+  pub out-of-4 : s .stage .phase ≡ 4 → T (atMost (meterOf (i .reading) .volts) dischargedVolts)
   pub out-of-5 : s .stage .phase ≡ 5 → T (signalsOf (car .status .value) .closed)
-  pub out-of-7 : s .stage .phase ≡ 7 → T (eqb (s .command) 0 && leb (meterOf (i .reading) .amperes) residualAmperes || leb rampDownEnd (s .stage .age))
+  pub out-of-7 : s .stage .phase ≡ 7 → T (eqb (s .command) 0 && atMost (meterOf (i .reading) .amperes) residualAmperes || leb rampDownEnd (s .stage .age))
   pub out-of-8 : s .stage .phase ≡ 8 → T (not (signalsOf (car .status .value) .closed) || leb weldCheckEnd (s .stage .age))
-  pub out-of-9 : s .stage .phase ≡ 9 → T (meterOf (i .reading) .good && leb (meterOf (i .reading) .volts) dischargedVolts)
+  pub out-of-9 : s .stage .phase ≡ 9 → T (meterOf (i .reading) .good && atMost (meterOf (i .reading) .volts) dischargedVolts)
   pub out-of-10 : s .stage .phase ≡ 10 → T (not (i .contacts .plug))
 
 -- of a lead that has heard, so that its phase can be replaced

@@ -1,29 +1,25 @@
--- The figures of document 01's questions and moves and of document 02's requests, by name. Definitions only.
+-- The figures of document 01's questions and moves and of document 02's requests, by name. What a reading is compared with is in tenths.
+-- Definitions only.
 use Prim.Native.Nat.{ℕ, _+_, _*_}
-use Rattle.readings.specs.Value.{stepsPerUnit}
+use Rattle.readings.specs.Value.{tenthsPerUnit}
+use Rattle.readings.specs.Readings.{tenths, ofUnits}
+use Rattle.readings.specs.declared.Tenths.{Tenths}
 
--- whole volts or amperes in the steps that readings are judged in
-abbrev stepsOf : ℕ → ℕ
-stepsOf units = stepsPerUnit * units
+-- question 16: "at most the threshold", and 2026-04: "question 16 compare[s] in tenths"
+abbrev pub mostVolts : ℕ → Tenths
+mostVolts threshold = ofUnits threshold
 
--- question 16: "at most the threshold"
-abbrev pub mostVolts : ℕ → ℕ
-mostVolts threshold = stepsOf threshold
+-- 2026-04: "Question 17 allows rated + 2.5 A"
+abbrev pub mostAmperes : ℕ → Tenths
+mostAmperes rated = tenths (tenthsPerUnit * rated + 25)
 
--- question 17: "at most rated + 5"
-abbrev pub moreAmperes : ℕ
-moreAmperes = stepsOf 5
+-- the moves out of 4 and 9: "connector volts at most 10", and 2026-04: "The 10 V limits … compare in tenths"
+abbrev pub dischargedVolts : Tenths
+dischargedVolts = ofUnits 10
 
-abbrev pub mostAmperes : ℕ → ℕ
-mostAmperes rated = stepsOf rated + moreAmperes
-
--- the moves out of 4 and 9: "connector volts at most 10"
-abbrev pub dischargedVolts : ℕ
-dischargedVolts = stepsOf 10
-
--- the move out of 7: "amperes at most 4"
-abbrev pub residualAmperes : ℕ
-residualAmperes = stepsOf 4
+-- 2026-04: "phase 7's ampere limit is 49 tenths"
+abbrev pub residualAmperes : Tenths
+residualAmperes = tenths 49
 
 -- question 21 and the kept threshold: "at least 50", in whole volts
 abbrev pub leastVolts : ℕ

@@ -4,6 +4,7 @@ pub mod Leads
 pub mod Hearing
 pub mod Questions
 pub mod Moves
+pub mod Claims
 pub mod Power
 pub mod Good
 pub mod All

@@ -5,6 +5,7 @@ use Prim.Native.Nat.{ℕ, _+_, min}
 use lib.Dec.{leb, eqb}
 use lib.ListN.{getD}
 use Rattle.common.specs.Tests.{between}
+use Rattle.readings.specs.Readings.{atMost}
 use Rattle.lead.specs.Names.{idle, handshake, locking, noReason}
 use Rattle.lead.specs.Figures.{dischargedVolts, residualAmperes, rampDownEnd, weldCheckEnd}
 use Rattle.lead.specs.Leads.{blank, withStage, withCommand, withThreshold}
@@ -32,17 +33,17 @@ moves v heard =
     -- "3 to 4: resistance given."
     ∷ v .present
     -- "4 to 5: connector volts at most 10."
-    ∷ leb (v .meter .volts) dischargedVolts
+    ∷ atMost (v .meter .volts) dischargedVolts
     -- "5 to 6: contactor closed."
     ∷ v .signals .closed
     -- phase 6 has no move
     ∷ false
-    -- "7 to 8: command 0 and amperes at most 4, or age 30 or more."
-    ∷ (eqb (s .command) 0 && leb (v .meter .amperes) residualAmperes || leb rampDownEnd (s .stage .age))
+    -- "7 to 8: command 0 and amperes at most" 4.9 (2026-04), "or age 30 or more."
+    ∷ (eqb (s .command) 0 && atMost (v .meter .amperes) residualAmperes || leb rampDownEnd (s .stage .age))
     -- "8 to 9: contactor open, or age 40 or more"
     ∷ (not (v .signals .closed) || leb weldCheckEnd (s .stage .age))
     -- "9 to 10: good reading, connector volts at most 10."
-    ∷ (v .meter .good && leb (v .meter .volts) dischargedVolts)
+    ∷ (v .meter .good && atMost (v .meter .volts) dischargedVolts)
     -- "10 to 0: plug open."
     ∷ not (v .contacts .plug)
     ∷ []

@@ -5,7 +5,7 @@ use Prim.Native.Nat.{ℕ, _-_, min}
 use lib.Dec.{leb, ltb, eqb}
 use lib.ListN.{getD, drop}
 use Rattle.common.specs.Tests.{between}
-use Rattle.readings.specs.Readings.{insulated}
+use Rattle.readings.specs.Readings.{tenths, atMost, insulated}
 use Rattle.readings.specs.declared.Reading.{Reading}
 use Rattle.readings.specs.declared.Reading.the-variants.{Value, Missing}
 use Rattle.readings.specs.declared.Judged.{Judged}
@@ -27,7 +27,7 @@ use Rattle.lead.specs.declared.questions.Verdict.the-variants.{Pass, Urg
 -- the figures of a good reading
 abbrev pub meterOf : Judged → Meter
 meterOf (Good volts amperes) = record { good = true; volts = volts; amperes = amperes }
-meterOf Bad = record { good = false; volts = 0; amperes = 0 }
+meterOf Bad = record { good = false; volts = tenths 0; amperes = tenths 0 }
 
 abbrev pub isPresent : Reading → Bool
 isPresent (Value x) = true
@@ -92,9 +92,9 @@ questions v heard =
     -- "15 Reading good? (3–7)"
     ∷ urgentRow badReading 3 7 (v .meter .good)
     -- "16 Connector volts at most the threshold? (5–7)"
-    ∷ urgentRow overvoltage 5 7 (leb (v .meter .volts) (mostVolts (v .threshold)))
-    -- "17 Amperes at most rated + 5? (5–7)"
-    ∷ urgentRow overcurrent 5 7 (leb (v .meter .amperes) (mostAmperes (v .rated)))
+    ∷ urgentRow overvoltage 5 7 (atMost (v .meter .volts) (mostVolts (v .threshold)))
+    -- "17 Amperes at most rated" + 2.5 (2026-04)? "(5–7)"
+    ∷ urgentRow overcurrent 5 7 (atMost (v .meter .amperes) (mostAmperes (v .rated)))
     -- "18 Lock contact closed? (3–7)"
     ∷ urgentRow unlocked 3 7 (v .contacts .lock)
     -- "19 Silence below 10? (2–6)"

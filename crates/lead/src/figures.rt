@@ -1,20 +1,15 @@
-// The figures of document 01's questions and moves. What a reading is compared with is in its steps.
-use readings::STEPS_PER_UNIT;
-
+// The figures of document 01's questions and moves and of document 02's requests.
 pub struct Figure;
 
 impl Figure {
-    // A volt or an ampere.
-    pub const UNIT: u32 = STEPS_PER_UNIT as u32;
+    // Question 17: so much above the rated amperes, in tenths.
+    pub const MORE_TENTHS: u16 = 25;
 
-    // Question 17: so much above the rated amperes.
-    pub const MORE_AMPERES: u32 = 5 * Figure::UNIT;
+    // The moves out of 4 and 9, in volts.
+    pub const DISCHARGED_VOLTS: u16 = 10;
 
-    // The moves out of 4 and 9.
-    pub const DISCHARGED_VOLTS: u32 = 10 * Figure::UNIT;
-
-    // The move out of 7.
-    pub const RESIDUAL_AMPERES: u32 = 4 * Figure::UNIT;
+    // The move out of 7, in tenths of an ampere.
+    pub const RESIDUAL_TENTHS: u16 = 49;
 
     // Question 21 and the kept threshold, in volts.
     pub const LEAST_VOLTS: u16 = 50;

@@ -10,18 +10,21 @@ use super::state::Ratings;
 use frames::VehicleSignals;
 use readings::Judged;
 use readings::Reading;
+use readings::Tenths;
 use readings::is_insulated;
 ghost use mathlib.Core.Path.{_≡_};
 ghost use mathlib.Core.Bool.{not, _&&_};
 ghost use lib.ListN.{getD};
 ghost use Rattle.common.specs.Tests.{between};
+ghost use Rattle.readings.specs.Readings.{atMost};
+ghost use Rattle.lead.specs.Figures.{mostVolts, mostAmperes, dischargedVolts, residualAmperes};
 ghost use Rattle.lead.specs.Questions.{meterOf, isPresent, thresholdNow, ticksAllowed, viewOf, questionsFrom, firstNo, ask, reasonOf};
 
-// The figures of a good reading, in steps.
+// The figures of a good reading.
 pub struct Meter {
     pub good: bool,
-    pub volts: u32,
-    pub amperes: u32,
+    pub volts: Tenths,
+    pub amperes: Tenths,
 }
 
 // What the questions and the moves look at beside the lead's own numbers: contacts, meter, what H'102's bits say, rated
@@ -65,15 +68,50 @@ impl Meter {
         match reading {
             Judged::Good { volts, amperes } => Meter {
                 good: true,
-                volts: volts as u32,
-                amperes: amperes as u32,
+                volts,
+                amperes,
             },
             Judged::Bad => Meter {
                 good: false,
-                volts: 0,
-                amperes: 0,
+                volts: Tenths(0),
+                amperes: Tenths(0),
             },
         }
+    }
+
+    // For the moves out of 4 and 9.
+    pub(crate) fn is_discharged(self) -> bool
+        ensures { λ r. ⌜ r ≡ atMost (self .volts) dischargedVolts ⌝ }
+    {
+        let volts = self.volts;
+        volts.is_at_most_units(Figure::DISCHARGED_VOLTS)
+    }
+
+    // For the move out of 7.
+    pub(crate) fn is_ramped_down(self) -> bool
+        ensures { λ r. ⌜ r ≡ atMost (self .amperes) residualAmperes ⌝ }
+    {
+        let amperes = self.amperes;
+        amperes.is_at_most(Tenths(Figure::RESIDUAL_TENTHS))
+    }
+}
+
+impl View {
+    // Question 16.
+    fn volts_fit(self) -> bool
+        ensures { λ r. ⌜ r ≡ atMost (self .meter .volts) (mostVolts (self .threshold)) ⌝ }
+    {
+        let volts = self.meter.volts;
+        volts.is_at_most_units(self.threshold)
+    }
+
+    // Question 17.
+    fn amperes_fit(self) -> bool
+        ensures { λ r. ⌜ r ≡ atMost (self .meter .amperes) (mostAmperes (self .rated)) ⌝ }
+    {
+        let amperes = self.meter.amperes;
+        let most = Tenths::PER_UNIT * (self.rated as u16) + Figure::MORE_TENTHS;
+        amperes.is_at_most(Tenths(most))
     }
 }
 
@@ -146,9 +184,6 @@ impl HeardLead {
         let p = self.lead.stage.phase;
         let contacts = view.contacts;
         let meter = view.meter;
-        let volts_fit = meter.volts <= Figure::UNIT * (view.threshold as u32);
-        let amperes_fit = meter.amperes
-            <= Figure::UNIT * (view.rated as u32) + Figure::MORE_AMPERES;
         if is_no(p, 1, 8, !contacts.emergency) {
             return Verdict::Urgent(Reason::EMERGENCY_BUTTON);
         }
@@ -164,10 +199,10 @@ impl HeardLead {
         if is_no(p, 3, 7, meter.good) {
             return Verdict::Urgent(Reason::BAD_READING);
         }
-        if is_no(p, 5, 7, volts_fit) {
+        if is_no(p, 5, 7, view.volts_fit()) {
             return Verdict::Urgent(Reason::OVERVOLTAGE);
         }
-        if is_no(p, 5, 7, amperes_fit) {
+        if is_no(p, 5, 7, view.amperes_fit()) {
             return Verdict::Urgent(Reason::OVERCURRENT);
         }
         if is_no(p, 3, 7, contacts.lock) {

@@ -62,7 +62,7 @@ remainingOf s =
     (remainingTime (s .car .time .value) (cond (eqb (s .stage .phase) charging) (s .stage .age) 0))
     (timeOf 0 0)
 
--- "Without a good reading 1–3 are 0."
+-- "Without a good reading 1–3 are 0." 2026-04: "H'109 still carries whole numbers, rounded up from tenths."
 abbrev pub shownReading : Judged → ShownReading
 shownReading (Good volts amperes) = record { volts = wholeUnits volts; amperes = wholeUnits amperes }
 shownReading Bad = record { volts = 0; amperes = 0 }

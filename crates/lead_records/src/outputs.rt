@@ -14,7 +14,6 @@ use lead::Reason;
 use little_endian::high_byte;
 use little_endian::low_byte;
 use readings::Judged;
-use readings::whole_units;
 ghost use mathlib.Core.Path.{_≡_};
 ghost use mathlib.Core.List.{_++_};
 ghost use Rattle.frames.specs.Sent.{offerBytes, reportBytes};
@@ -24,7 +23,7 @@ ghost use Rattle.lead_records.specs.Outputs.{outputSize, framesSize, swi
 // The output's size, the places in it, and the weights in its byte of switches.
 pub struct OutputRecord;
 
-// Volts and amperes as H'109 shows them.
+// Volts and amperes as H'109 shows them, whole.
 struct ShownReading {
     volts: u16,
     amperes: u16,
@@ -132,8 +131,8 @@ impl OutputRecord {
     {
         match reading {
             Judged::Good { volts, amperes } => ShownReading {
-                volts: whole_units(volts),
-                amperes: whole_units(amperes),
+                volts: volts.whole_units(),
+                amperes: amperes.whole_units(),
             },
             Judged::Bad => ShownReading {
                 volts: 0,

@@ -3,6 +3,7 @@ use mathlib.Core.Bool.{false, cond}
 use mathlib.Core.List.{List}
 use Prim.Native.Nat.{ℕ}
 use lib.Dec.{ltb}
+use Rattle.readings.specs.Readings.{tenths}
 use Rattle.readings.specs.declared.Judged.the-variants.{Good}
 use Rattle.lead.specs.Leads.{fresh}
 use Rattle.lead.specs.Moves.{decide}
@@ -17,7 +18,7 @@ use Rattle.post.specs.declared.turns.Turn.{Turn}
 
 -- a place that no lead of the post has: all zero
 abbrev pub emptyTurn : Turn
-emptyTurn = record { lead = fresh; lock = false; reading = Good 0 0 }
+emptyTurn = record { lead = fresh; lock = false; reading = Good (tenths 0) (tenths 0) }
 
 -- a lead after its decision, and what its output shows of its input
 unfoldable pub decidedTurn : Ratings → Lead → Input → Turn

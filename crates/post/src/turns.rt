@@ -6,6 +6,7 @@ use lead::Ratings;
 use lead_records::InputRecord;
 use lead_records::StateRecord;
 use readings::Judged;
+use readings::Tenths;
 use sharing::PLACES;
 ghost use mathlib.Core.Path.{_≡_};
 ghost use mathlib.Core.Bool.{true};
@@ -37,8 +38,8 @@ impl Turn {
             lead: Lead::fresh(),
             lock: false,
             reading: Judged::Good {
-                volts: 0,
-                amperes: 0,
+                volts: Tenths(0),
+                amperes: Tenths(0),
             },
         }
     }

@@ -10,7 +10,7 @@ use lib.Pow.{pow-pos, pow-add, pow-mono}
 use lib.Ieee.{Float, nan, inf, fin, binary32, ofBits, toBits, nanBits, ofFields, odd, fits, isNan}
 use lib.Ieee.Bits.{ofBits-toBits, nanBits-is, nanBits-above}
 use lib.Ieee.Digits.{Equals, odd-val}
-use Rattle.readings.specs.Value.{within, least, ceiling, stepsPerUnit}
+use Rattle.readings.specs.Value.{within, least, ceiling, tenthsPerUnit}
 use Rattle.readings.proofs.Ceiling as ceilings
 use Rattle.readings.proofs.InRange.{no-nan, no-inf}
 use Rattle.readings.proofs.Least.{least-of, size-of}
@@ -85,12 +85,12 @@ module _ (x : Float) (f : T (fits binary32 x)) (t : T (within 1000 x)) where
   least-nothing z =
       let d : fraction bits ≡ 0 = omega arith in
       least-of (fraction bits * 2 ^ 0) (2 ^ 149) (pow-pos 149) x t (subnormal (omega arith))
-      ∙ ap (λ (n : ℕ). ceiling (stepsPerUnit * (n * 2 ^ 0)) (2 ^ 149)) d
+      ∙ ap (λ (n : ℕ). ceiling (tenthsPerUnit * (n * 2 ^ 0)) (2 ^ 149)) d
 
   least-subnormal : exponent bits ≡ 0 → (fraction bits ≡ 0 → ⊥) → least x ≡ 1
   least-subnormal z d =
       least-of (fraction bits * 2 ^ 0) (2 ^ 149) (pow-pos 149) x t (subnormal z)
-      ∙ ceilings.one (stepsPerUnit * (fraction bits * 2 ^ 0)) (2 ^ 149) (omega arith) (le-trans {m = 2 ^ 28} (omega arith) (lit≤ tt))
+      ∙ ceilings.one (tenthsPerUnit * (fraction bits * 2 ^ 0)) (2 ^ 149) (omega arith) (le-trans {m = 2 ^ 28} (omega arith) (lit≤ tt))
 
   module _ (p : 0 < exponent bits) where
     abbrev k : ℕ
@@ -104,13 +104,13 @@ module _ (x : Float) (f : T (fits binary32 x)) (t : T (within 1000 x)) where
 
     least-small : exponent bits < 120 → least x ≡ 1
     least-small h =
-        let s : stepsPerUnit * significand ≤ 2 ^ 28 = omega arith in
+        let s : tenthsPerUnit * significand ≤ 2 ^ 28 = omega arith in
         let e : k ≤ 118 = omega arith in
-        let u : stepsPerUnit * significand * 2 ^ k ≤ 2 ^ 28 * 2 ^ 118 = mul-le-mul s (pow-mono e) in
+        let u : tenthsPerUnit * significand * 2 ^ k ≤ 2 ^ 28 * 2 ^ 118 = mul-le-mul s (pow-mono e) in
         let w : 0 < significand * 2 ^ k = mul-pos (omega arith) (pow-pos k) in
         least-of (significand * 2 ^ k) (2 ^ 149) (pow-pos 149) x t value
-        ∙ ceilings.one (stepsPerUnit * (significand * 2 ^ k)) (2 ^ 149) (mul-pos {m = stepsPerUnit} (lit< tt) w)
-        (le-trans (le-of-eq (sym (mul-assoc stepsPerUnit significand (2 ^ k)))) (le-trans u (lit≤ tt)))
+        ∙ ceilings.one (tenthsPerUnit * (significand * 2 ^ k)) (2 ^ 149) (mul-pos {m = tenthsPerUnit} (lit< tt) w)
+        (le-trans (le-of-eq (sym (mul-assoc tenthsPerUnit significand (2 ^ k)))) (le-trans u (lit≤ tt)))
 
     pub exponent-top : exponent bits ≤ 136
     exponent-top =
@@ -119,15 +119,15 @@ module _ (x : Float) (f : T (fits binary32 x)) (t : T (within 1000 x)) where
         let c : k < 136 = lt-of-not-le (λ h. not-le-of-lt (lit< tt) (le-trans {m = significand * 2 ^ k} (mul-le-mul s (pow-mono {i = 136} h)) a)) in
         omega arith
 
-    pub least-normal : least x ≡ ceiling (stepsPerUnit * significand) (2 ^ (150 - exponent bits))
+    pub least-normal : least x ≡ ceiling (tenthsPerUnit * significand) (2 ^ (150 - exponent bits))
     least-normal =
         let d = 150 - exponent bits in
         let e : k + d ≡ 149 = omega (arith, exponent-top) in
         least-of (significand * 2 ^ k) (2 ^ 149) (pow-pos 149) x t value
-        ∙ ceilings.same (stepsPerUnit * (significand * 2 ^ k)) (2 ^ 149) (stepsPerUnit * significand) (2 ^ d) (pow-pos 149) (pow-pos d)
-        (ap (λ (n : ℕ). n * 2 ^ d) (sym (mul-assoc stepsPerUnit significand (2 ^ k)))
-        ∙ mul-assoc (stepsPerUnit * significand) (2 ^ k) (2 ^ d)
-        ∙ ap (λ (n : ℕ). stepsPerUnit * significand * n) (sym (pow-add 2 k d) ∙ ap (λ (n : ℕ). 2 ^ n) e))
+        ∙ ceilings.same (tenthsPerUnit * (significand * 2 ^ k)) (2 ^ 149) (tenthsPerUnit * significand) (2 ^ d) (pow-pos 149) (pow-pos d)
+        (ap (λ (n : ℕ). n * 2 ^ d) (sym (mul-assoc tenthsPerUnit significand (2 ^ k)))
+        ∙ mul-assoc (tenthsPerUnit * significand) (2 ^ k) (2 ^ d)
+        ∙ ap (λ (n : ℕ). tenthsPerUnit * significand * n) (sym (pow-add 2 k d) ∙ ap (λ (n : ℕ). 2 ^ n) e))
 
   -- less than 1 / 128, and not 0
   pub least-tiny : magnitude bits < 120 * 0x80_0000 → (magnitude bits ≡ 0 → ⊥) → least x ≡ 1

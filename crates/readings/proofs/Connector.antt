@@ -6,15 +6,16 @@ use native.Mathlib.Nat.{zero-mul, mul-zero, mul-one, mul-pos, mul-assoc, mul-le-
 use native.Mathlib.Omega.{arith}
 use borrow.Author.Tests.{not-false, ltb-false}
 use lib.IntN.{pos}
-use lib.Dec.{T, ltb, eqb, lit<}
+use lib.Dec.{T, ltb, eqb, lit<, lit≤}
 use lib.Ieee.{Float, nan, inf, fin, up, down, binary32, unlike, le, lt, eq, ofInt, round, units, odd, sum, add, sub, neg, mul, isNan}
-use lib.Ieee.Fits.{and-i, eq→eqb, down-pos, round-is}
+use lib.Ieee.Fits.{and-i, and-l, and-r, eq→eqb, down-pos, round-is}
 use lib.Ieee.Order.{round-mono, le-of-values}
 use lib.Ieee.Scale.{round-same}
 use Rattle.readings.specs.Value.{number, within}
-use Rattle.readings.specs.Readings.{connectorVolts}
+use Rattle.readings.specs.Readings.{inRange, connectorVolts}
 use Rattle.readings.specs.declared.Measurement.{Measurement}
-use Rattle.readings.proofs.InRange.{lower, sized, minus-zero, no-nan, no-inf, minus-below}
+use Rattle.readings.proofs.InRange.{lower, sized, minus-zero, no-nan, no-inf, minus-below, wider}
+use Rattle.common.proofs.Bools.{holds}
 
 -- ---- a rounded number is at most 1000 where the exact one is, or where its sign says negative
 
@@ -145,3 +146,15 @@ connector-within m hv ha hr = go (lt d (number 0)) refl
     go : (b : Bool) → lt d (number 0) ≡ b → T (within 1000 (cond b (number 0) d))
     go true e = tt
     go false e = and-i (le (number 0) d) (le d (number 1000)) (from-zero d top e) top
+
+-- both figures of a reading in range are in the range of `least`
+pub figures-within :
+    (m : Measurement)
+    → inRange m ≡ true
+    → within 1 (m .resistance) ≡ true
+    → T (within 1000 (connectorVolts m)) × T (within 1000 (m .amperes))
+unfolding inRange
+figures-within m e r =
+    let volts = and-l (within 1000 (m .volts)) (within 400 (m .amperes)) (holds e) in
+    let amperes = wider 400 (m .amperes) (lit≤ tt) (and-r (within 1000 (m .volts)) (within 400 (m .amperes)) (holds e)) in
+    (connector-within m volts amperes (wider 1 (m .resistance) (lit≤ tt) (holds r)), amperes)

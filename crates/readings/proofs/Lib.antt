@@ -4,3 +4,4 @@ pub mod InRange
 pub mod Least
 pub mod Bits
 pub mod Connector
+pub mod Claimed

@@ -1,3 +1,4 @@
 pub mod Value
 pub mod Readings
+pub mod Claims
 pub mod All

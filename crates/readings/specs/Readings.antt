@@ -1,11 +1,13 @@
--- Document 01, 'Readings', and question 27. Definitions only.
+-- Document 01, 'Readings', as request 2026-04 amends it, and question 27. Definitions only.
 use mathlib.Core.Bool.{Bool, true, false, cond, _&&_}
 use Prim.Native.Nat.{ℕ, _*_}
+use lib.Dec.{leb}
 use lib.Ieee.{Float, binary32, le, lt, mul, sub, ofBits}
-use Rattle.readings.specs.Value.{number, within, ceiling, stepsPerUnit, least}
+use Rattle.readings.specs.Value.{number, within, ceiling, tenthsPerUnit, least}
 use Rattle.readings.specs.declared.Reading.{Reading}
 use Rattle.readings.specs.declared.Reading.the-variants.{Value, Missing}
 use Rattle.readings.specs.declared.Measurement.{Measurement}
+use Rattle.readings.specs.declared.Tenths.{Tenths}
 use Rattle.readings.specs.declared.Judged.{Judged}
 use Rattle.readings.specs.declared.Judged.the-variants.{Good, Bad}
 
@@ -24,12 +26,17 @@ connectorVolts m =
     let difference = sub binary32 (m .volts) (mul binary32 (m .resistance) (m .amperes)) in
     cond (lt difference (number 0)) (number 0) difference
 
--- "Both then become the least whole number not below."
-unfoldable pub inSteps : Measurement → Judged
-inSteps m = Good (least (connectorVolts m)) (least (m .amperes))
+-- so many tenths of a volt or an ampere: a type of their own, so that no rule takes them for whole ones
+abbrev pub tenths : ℕ → Tenths
+tenths n = record { 0 = n }
+
+-- 2026-04: "Readings now become the least whole tenth not below the exact value of the float": connector volts as they are after both
+-- roundings, amperes as given
+unfoldable pub inTenths : Measurement → Judged
+inTenths m = Good (tenths (least (connectorVolts m))) (tenths (least (m .amperes)))
 
 abbrev pub judgedMeasurement : Measurement → Judged
-judgedMeasurement m = cond (inRange m) (inSteps m) Bad
+judgedMeasurement m = cond (inRange m) (inTenths m) Bad
 
 -- "It is good if both are present" and in range. The cable resistance is given by its float's bits.
 abbrev pub judgedOf : Reading → Reading → ℕ → Judged
@@ -37,9 +44,17 @@ judgedOf (Value volts) (Value amperes) bits = judgedMeasurement (record { volts 
 judgedOf (Value volts) Missing bits = Bad
 judgedOf Missing amperes bits = Bad
 
--- a judged figure in whole volts or amperes, as frames carry it
-abbrev pub wholeUnits : ℕ → ℕ
-wholeUnits steps = ceiling steps stepsPerUnit
+-- whole volts or amperes in tenths
+abbrev pub ofUnits : ℕ → Tenths
+ofUnits units = tenths (tenthsPerUnit * units)
+
+-- what readings are asked: "at most" some tenths
+abbrev pub atMost : Tenths → Tenths → Bool
+atMost figure most = leb (figure .0) (most .0)
+
+-- 2026-04: "H'109 still carries whole numbers, rounded up from tenths."
+abbrev pub wholeUnits : Tenths → ℕ
+wholeUnits figure = ceiling (figure .0) tenthsPerUnit
 
 -- question 27: "Resistance, if given, at least 100 ohms × threshold? … A NaN is a no, plus infinity a yes."
 abbrev pub insulated : ℕ → Reading → Bool

@@ -1,4 +1,4 @@
--- The exact value of a float, and the least whole number of steps not below it. Definitions only.
+-- The exact value of a float, and the least whole tenth not below it. Definitions only.
 -- Floats and their operations are those of `lib.Ieee`: `fin s m e` is the number m × 2 ^ e, negative where s is true, and 2 ^ e is the fraction up e / down e.
 use mathlib.Core.Bool.{Bool, true, false, _&&_}
 use Prim.Native.Nat.{ℕ, _+_, _-_, _*_, _/_, _≤_}
@@ -17,20 +17,21 @@ within top x = le (number 0) x && le x (number top)
 abbrev pub ceiling : ℕ → ℕ → ℕ
 ceiling a c = (a + (c - 1)) / c
 
--- readings are judged in steps, so many to a volt and to an ampere; with 1, in whole volts and amperes
-abbrev pub stepsPerUnit : ℕ
-stepsPerUnit = 1
+-- "Tenths of volts and amperes" (2026-04): a volt and an ampere have so many
+abbrev pub tenthsPerUnit : ℕ
+tenthsPerUnit = 10
 
--- the least number of steps not below the value of a float. Minus zero gives 0. NaN, infinities and negative floats, which no good reading has, give 0 too.
+-- 2026-04: "the least whole tenth not below the exact value of the float". Ten times the value is exact, a fraction, and rounded up but once.
+-- Minus zero gives 0. NaN, infinities and negative floats, which no good reading has, give 0 too.
 unfoldable pub least : Float → ℕ
 least nan = 0
 least (inf s) = 0
 least (fin true m e) = 0
-least (fin false m e) = ceiling (stepsPerUnit * (m * up e)) (down e)
+least (fin false m e) = ceiling (tenthsPerUnit * (m * up e)) (down e)
 
--- what 'not below' means: n steps are at least m × 2 ^ e units. `proofs/Least.antt` shows that `least x` is not below x, and that nothing smaller is.
-abbrev pub NotBelow : Float → ℕ → Type 0
-NotBelow nan n = ⊥
-NotBelow (inf s) n = ⊥
-NotBelow (fin true m e) n = Unit
-NotBelow (fin false m e) n = stepsPerUnit * (m * up e) ≤ n * down e
+-- what 'not below' means, of a unit cut into so many parts: n parts are at least m × 2 ^ e units
+abbrev pub NotBelow : ℕ → Float → ℕ → Type 0
+NotBelow parts nan n = ⊥
+NotBelow parts (inf s) n = ⊥
+NotBelow parts (fin true m e) n = Unit
+NotBelow parts (fin false m e) n = parts * (m * up e) ≤ n * down e

@@ -1,10 +1,11 @@
-// Floats by their bits: from bits, in a range, and the least whole number not below.
-use super::STEPS_PER_UNIT;
+// Floats by their bits: from bits, in a range, and the least whole tenth not below.
+use super::Tenths;
 ghost use mathlib.Core.Path.{_≡_};
 ghost use mathlib.Core.Bool.{true};
 ghost use Prim.Native.Nat.{_^_, _<_};
 ghost use lib.Ieee.{binary32, ofBits};
 ghost use Rattle.readings.specs.Value.{within, ceiling, least};
+ghost use Rattle.readings.specs.Readings.{tenths};
 
 // `from_bits` takes no pattern of a NaN: each becomes the one NaN.
 pub(crate) fn float_of(bits: u32) -> f32
@@ -32,20 +33,21 @@ fn rounded_up(n: u64, by: u32) -> u64
     (n + (unit - 1)) >> by
 }
 
-// Bits below these, which are those of 1 / 128, stand for less than a step.
+// Bits below these, which are those of 1 / 128, stand for less than a tenth.
 const BITS_OF_A_128TH: u32 = 120 * 0x80_0000;
 
-// By the exponent and fraction fields.
-pub(crate) fn least_steps(x: f32) -> u16
+// By the exponent and fraction fields: ten times the value is worked out exactly, in whole numbers.
+pub(crate) fn least_tenth(x: f32) -> Tenths
     requires { ⌜ within 1000 x ≡ true ⌝ }
-    ensures { λ r. ⌜ r ≡ least x ⌝ }
+    ensures { λ r. ⌜ r ≡ tenths (least x) ⌝ }
 {
     let bits = f32::to_bits(x);
     let magnitude = bits % 0x8000_0000;
     if magnitude < BITS_OF_A_128TH {
-        return if magnitude == 0 { 0 } else { 1 };
+        return if magnitude == 0 { Tenths(0) } else { Tenths(1) };
     }
     let exponent = magnitude / 0x80_0000;
     let significand = (0x80_0000 + bits % 0x80_0000) as u64;
-    rounded_up((STEPS_PER_UNIT as u64) * significand, 150 - exponent) as u16
+    let tenths = rounded_up((Tenths::PER_UNIT as u64) * significand, 150 - exponent) as u16;
+    Tenths(tenths)
 }

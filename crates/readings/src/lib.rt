@@ -1,19 +1,16 @@
-// The meter board's readings: document 01, 'Readings', and question 27. Rests on little_endian and common.
-// Floats end here: the layers above see whole numbers, and hold a float only inside a Reading.
+// The meter board's readings: document 01, 'Readings', as request 2026-04 amends it, and question 27. Rests on little_endian and common.
+// Floats end here: the layers above see tenths, and hold a float only inside a Reading.
 mod floats;
 
 use floats::float_of;
 use floats::is_within;
-use floats::least_steps;
+use floats::least_tenth;
 ghost use mathlib.Core.Path.{_≡_};
 ghost use mathlib.Core.Bool.{true};
 ghost use lib.ListN.{length};
 ghost use Rattle.little_endian.specs.Numbers.{u32At};
 ghost use Rattle.readings.specs.Value.{within};
-ghost use Rattle.readings.specs.Readings.{readingOf, connectorVolts, inRange, inSteps, judgedMeasurement, judgedOf, wholeUnits, insulated, allowedResistance};
-
-// How finely readings are judged: so many steps to a volt and to an ampere.
-pub const STEPS_PER_UNIT: u16 = 1;
+ghost use Rattle.readings.specs.Readings.{readingOf, connectorVolts, inRange, inTenths, judgedMeasurement, judgedOf, ofUnits, atMost, wholeUnits, insulated, allowedResistance};
 
 // One value of the meter board.
 pub enum Reading {
@@ -28,9 +25,12 @@ struct Measurement {
     resistance: f32,
 }
 
-// A good reading has the volts at the connector and the amperes, in steps.
+// Tenths of a volt or an ampere (2026-04). Whole volts and amperes are plain numbers: only what stands here joins the two.
+pub struct Tenths(pub u16);
+
+// A good reading has the volts at the connector and the amperes.
 pub enum Judged {
-    Good { volts: u16, amperes: u16 },
+    Good { volts: Tenths, amperes: Tenths },
     Bad,
 }
 
@@ -45,6 +45,32 @@ impl Reading {
         } else {
             Reading::Missing
         }
+    }
+}
+
+impl Tenths {
+    // So many to a volt and to an ampere.
+    pub const PER_UNIT: u16 = 10;
+
+    pub fn is_at_most(self, most: Tenths) -> bool
+        ensures { λ r. ⌜ r ≡ atMost self most ⌝ }
+    {
+        self.0 <= most.0
+    }
+
+    // The limit is in whole volts or amperes, of which two bytes hold more than they hold tenths.
+    pub fn is_at_most_units(self, units: u16) -> bool
+        ensures { λ r. ⌜ r ≡ atMost self (ofUnits units) ⌝ }
+    {
+        (self.0 as u32) <= (Tenths::PER_UNIT as u32) * (units as u32)
+    }
+
+    // Whole volts or amperes, rounded up.
+    pub fn whole_units(self) -> u16
+        ensures { λ r. ⌜ r ≡ wholeUnits self ⌝ }
+    {
+        let per_unit = Tenths::PER_UNIT as u32;
+        (((self.0 as u32) + (per_unit - 1)) / per_unit) as u16
     }
 }
 
@@ -63,13 +89,13 @@ impl Measurement {
         is_within(self.volts, 1000) & is_within(self.amperes, 400)
     }
 
-    fn in_steps(self) -> Judged
+    fn in_tenths(self) -> Judged
         requires { ⌜ (inRange self ≡ true) × (within 1 (self .resistance) ≡ true) ⌝ }
-        ensures { λ r. ⌜ r ≡ inSteps self ⌝ }
+        ensures { λ r. ⌜ r ≡ inTenths self ⌝ }
     {
         Judged::Good {
-            volts: least_steps(self.connector_volts()),
-            amperes: least_steps(self.amperes),
+            volts: least_tenth(self.connector_volts()),
+            amperes: least_tenth(self.amperes),
         }
     }
 
@@ -78,7 +104,7 @@ impl Measurement {
         ensures { λ r. ⌜ r ≡ judgedMeasurement self ⌝ }
     {
         if self.is_in_range() {
-            self.in_steps()
+            self.in_tenths()
         } else {
             Judged::Bad
         }
@@ -102,14 +128,6 @@ pub fn judge(volts: Reading, amperes: Reading, resistance: u32) -> Judged
         resistance: float_of(resistance),
     };
     m.judged()
-}
-
-// A figure in steps as the frames show it, in whole volts or amperes.
-pub fn whole_units(steps: u16) -> u16
-    ensures { λ r. ⌜ r ≡ wholeUnits steps ⌝ }
-{
-    let per_unit = STEPS_PER_UNIT as u32;
-    (((steps as u32) + (per_unit - 1)) / per_unit) as u16
 }
 
 // Question 27, of the insulation resistance in ohms.

@@ -1,4 +1,5 @@
--- The starred cases of document 01, in its order: what the rules give, beside what it states. Definitions only.
+-- The starred cases of document 01, in its order, those of readings as 2026-04 has them: what the rules give, beside what is stated.
+-- Definitions only.
 use mathlib.Core.Bool.{true, false, cond}
 use mathlib.Core.List.{List, [], _∷_, _++_}
 use Prim.Native.Nat.{ℕ, zero, suc, _-_}
@@ -7,7 +8,7 @@ use lib.IntN.{pos, negsuc}
 use lib.ListN.{length, replicate}
 use Rattle.common.specs.Tests.{same}
 use Rattle.readings.specs.Value.{number}
-use Rattle.readings.specs.Readings.{judgedOf}
+use Rattle.readings.specs.Readings.{ofUnits, judgedOf}
 use Rattle.readings.specs.declared.Judged.the-variants.{Good}
 use Rattle.readings.specs.declared.Reading.the-variants.{Value}
 use Rattle.frames.specs.Times.{timeOf, chargingTicks}
@@ -25,7 +26,7 @@ use Rattle.lead_records.specs.Inputs.{contactsOf}
 use Rattle.post.specs.Heads.{inputLength, headFrom}
 use Rattle.post.specs.Rules.{tickInput, leadAfter}
 
--- a case: its number here, what the rules give, what the document states
+-- a case: its number here, what the rules give, what the papers state
 pub record Case : Type 0 where
   pub number : ℕ
   pub computed : List ℕ
@@ -38,9 +39,9 @@ volts-400-25 = fin false 1601 (negsuc 1)
 abbrev minusZero : Float
 minusZero = fin true 0 (pos 0)
 
--- the connector's volts, from volts, amperes and the bits of the cable resistance
+-- tenths of a volt at the connector, from volts, amperes and the bits of the cable resistance
 abbrev connector : Float → Float → ℕ → ℕ
-connector volts amperes resistance = meterOf (judgedOf (Value volts) (Value amperes) resistance) .volts
+connector volts amperes resistance = meterOf (judgedOf (Value volts) (Value amperes) resistance) .volts .0
 
 -- a post's ratings
 abbrev ratings : Ratings
@@ -68,7 +69,7 @@ abbrev tested : ℕ → Input
 tested ohms =
     record {
       contacts = contactsOf 7;
-      reading = Good 400 0;
+      reading = Good (ofUnits 400) (ofUnits 0);
       insulation = Value (number ohms);
       battery = battery.Absent;
       time = time.Absent;
@@ -102,10 +103,10 @@ stopping (suc t) = leadAfter (headFrom (record { leads = 1; volts = 500; amperes
 
 unfoldable pub cases : List Case
 cases =
-    -- "400.25 V, no resistance: 401."
-    record { number = 1; computed = connector volts-400-25 (number 100) 0 ∷ []; stated = 401 ∷ [] }
-    -- "400 V, 100 A, 0.5 ohm: 350."
-    ∷ record { number = 2; computed = connector (number 400) (number 100) 0x3f00_0000 ∷ []; stated = 350 ∷ [] }
+    -- "400.25 V, no resistance", and 2026-04: "starred cases now 4,003, 3,500 and 0 tenths"
+    record { number = 1; computed = connector volts-400-25 (number 100) 0 ∷ []; stated = 4003 ∷ [] }
+    -- "400 V, 100 A, 0.5 ohm"
+    ∷ record { number = 2; computed = connector (number 400) (number 100) 0x3f00_0000 ∷ []; stated = 3500 ∷ [] }
     -- "Minus zero: 0.", of volts, amperes and resistance
     ∷ record { number = 3; computed = connector minusZero minusZero 0x8000_0000 ∷ []; stated = 0 ∷ [] }
     -- "6 gives 600 ticks"

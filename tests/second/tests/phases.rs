@@ -25,7 +25,7 @@ fn moves() {
         (4, |c| c.volts(15.0).resistance(0.5), (5, 0)),
         (5, |c| c.hears(ENABLED), (6, 0)),
         // The command that came in, not the one that this tick gives.
-        (7, |c| c.byte(COMMAND, 0).amperes(4.0), (8, 0)), (7, |c| c.byte(COMMAND, 0).amperes(4.0f32.next_up()), (7, 0)),
+        (7, |c| c.byte(COMMAND, 0).amperes(4.875), (8, 0)), (7, |c| c.byte(COMMAND, 0).amperes(4.9375), (7, 0)),
         (7, |c| c.byte(COMMAND, 10).amperes(0.0), (7, 0)), (7, |c| c.byte(COMMAND, 100).amperes(0.0).age(29), (7, 0)),
         (7, |c| c.byte(COMMAND, 0).amperes(5.0).age(29), (7, 0)), (7, |c| c.byte(COMMAND, 0).amperes(5.0).age(30), (8, 0)),
         (7, |c| c.byte(COMMAND, 100).age(30), (8, 0)), (7, |c| c.byte(COMMAND, 100).age(u32::MAX), (8, 0)),

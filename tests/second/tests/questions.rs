@@ -18,7 +18,7 @@ const NO: &[(u8, bool, RangeInclusive<u8>, Change)] = &[
     (15, URGENT, 3..=7, |c| c.volts(f32::NAN)),
     (15, URGENT, 3..=7, |c| c.amperes(400.5)),
     (16, URGENT, 5..=7, |c| c.volts(400.25)),
-    (17, URGENT, 5..=7, |c| c.amperes(130.5)),
+    (17, URGENT, 5..=7, |c| c.amperes(127.75)),
     (18, URGENT, 3..=7, |c| c.open(CONNECTOR_LOCK)),
     (19, ORDINARY, 2..=6, |c| c.byte(SILENCE, 9)),
     (20, ORDINARY, 1..=6, |c| c.byte(FAULTS, 1 << 0)),
@@ -97,7 +97,7 @@ fn edges() {
         (6, |c| c.resistance(0.5).volts(405.0), (6, 0)), (6, |c| c.resistance(0.5).volts(405.1), (9, 16)),
         (6, |c| kept(c, 400, 300, 60).volts(350.0), (6, 0)), (6, |c| kept(c, 300, 400, 60).volts(350.0), (9, 16)),
         // 17: rated amperes are 125.
-        (6, |c| c.amperes(130.0), (6, 0)), (6, |c| c.amperes(130.0f32.next_up()), (9, 17)),
+        (6, |c| c.amperes(127.5), (6, 0)), (6, |c| c.amperes(127.5f32.next_up()), (9, 17)),
         // 19: the silence after this tick's counting.
         (4, |c| c.byte(SILENCE, 8), (4, 0)), (4, |c| c.byte(SILENCE, 9), (8, 19)),
         (4, |c| c.byte(SILENCE, 255).hears(ENABLED), (4, 0)), (4, |c| c.byte(SILENCE, 255), (8, 19)),

@@ -36,7 +36,7 @@ fn a_whole_charge() {
     // The amperes hold it in 7, the contactor in 8, the volts in 9, the plug in 10. The reason
     // shows until the next start.
     for (input, phase, reason) in [
-        (still.reading(380.0, 4.5), 7, 26), (still.reading(380.0, 4.0), 8, 26),
+        (still.reading(380.0, 5.0), 7, 26), (still.reading(380.0, 4.5), 8, 26),
         (still, 8, 26), (still.status(TARGET, 0, 0, CONTACTOR_OPEN), 9, 26),
         (still, 9, 26), (still.reading(11.0, 0.0), 9, 26), (still.reading(10.0, 0.0), 10, 26),
         (still, 10, 26), (LeadInput::new(0), 0, 26), (LeadInput::new(0), 0, 26), (START, 1, 0),

@@ -12,4 +12,4 @@ returns-2 c = rw (c .enum-told .given .1)
 pub from-reading-spec : {M : Type 1} → statement M
 from-reading-spec =
     tie.close
-    (tie.spec (search needs) (search needs) (search needs) (search needs) returns returns-2)
+    (tie.spec (search needs) (search needs) returns returns-2)

@@ -1,4 +1,5 @@
 -- `lead::state::HeardLead::may_move` meets its contract. A row a phase; past its end the list gives false. Assumes nothing.
+use borrow.Author.Needs.{needs}
 use mathlib.Core.Path.{sym}
 use mathlib.Core.Bool.{false}
 use Prim.Native.Nat.{_≤_}
@@ -19,8 +20,8 @@ pub may-move-spec : {M : Type 1} → statement M
 unfolding mayMove moves
 may-move-spec =
     tie.close
-    (tie.spec
+    (tie.spec (search needs) (search needs) (search needs)
     (λ c. rw (c .before .before .match .keys1)) (λ c. rw (c .before .before .before .before .match .keys2)) (λ c. rw (c .match .keys3))
-    (λ c. rw (c .match .keys4)) (λ c. rw (c .before .match .keys5)) (λ c. rw (c .match .keys6))
-    (λ c. rw (c .match .keys7)) (λ c. rw (c .before .before .match .keys8)) (λ c. rw (c .before .match .keys9))
-    (λ c. rw (c .before .before .match .keys10)) (λ c. rw (c .before .match .keys11)) past-all)
+    (λ c. rw (c .match .keys4)) (λ c. rw (c .before .match .keys5) (c .is-discharged .ensures)) (λ c. rw (c .match .keys6))
+    (λ c. rw (c .match .keys7)) (λ c. rw (c .before .before .match .keys8, c .is-ramped-down .ensures)) (λ c. rw (c .before .match .keys9))
+    (λ c. rw (c .before .before .match .keys10, c .before .is-discharged2 .ensures)) (λ c. rw (c .before .match .keys11)) past-all)
