@@ -81,7 +81,7 @@ impl Scene {
             3 => onward.gives(None),
             4 => onward.reads(10.5, 0.0),
             5 => onward.says(car, NOT_READY),
-            7 => onward.reads(30.0, 4.5),
+            7 => onward.reads(30.0, 4.95),
             8 => onward.says(car, 0),
             9 => onward.reads(45.5, 0.0),
             _ => onward,
