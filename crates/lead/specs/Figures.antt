@@ -5,7 +5,7 @@ use Rattle.readings.specs.Value.{tenthsPerUnit}
 use Rattle.readings.specs.Readings.{tenths, ofUnits}
 use Rattle.readings.specs.declared.Tenths.{Tenths}
 
--- question 16: "at most the threshold", and 2026-04: "question 16 compare[s] in tenths"
+-- question 16: "at most the threshold"; 2026-04: "The 10 V limits and question 16 compare in tenths."
 abbrev pub mostVolts : ℕ → Tenths
 mostVolts threshold = ofUnits threshold
 
@@ -13,7 +13,7 @@ mostVolts threshold = ofUnits threshold
 abbrev pub mostAmperes : ℕ → Tenths
 mostAmperes rated = tenths (tenthsPerUnit * rated + 25)
 
--- the moves out of 4 and 9: "connector volts at most 10", and 2026-04: "The 10 V limits … compare in tenths"
+-- the moves out of 4 and 9: "connector volts at most 10"; 2026-04, as above
 abbrev pub dischargedVolts : Tenths
 dischargedVolts = ofUnits 10
 

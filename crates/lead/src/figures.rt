@@ -1,15 +1,17 @@
 // The figures of document 01's questions and moves and of document 02's requests.
+use readings::Tenths;
+
 pub struct Figure;
 
 impl Figure {
-    // Question 17: so much above the rated amperes, in tenths.
-    pub const MORE_TENTHS: u16 = 25;
+    // Question 17: so much above the rated amperes.
+    pub const MORE_AMPERES: Tenths = Tenths(25);
 
-    // The moves out of 4 and 9, in volts.
-    pub const DISCHARGED_VOLTS: u16 = 10;
+    // The moves out of 4 and 9: 10 V.
+    pub const DISCHARGED_VOLTS: Tenths = Tenths(10 * Tenths::PER_UNIT);
 
-    // The move out of 7, in tenths of an ampere.
-    pub const RESIDUAL_TENTHS: u16 = 49;
+    // The move out of 7.
+    pub const RESIDUAL_AMPERES: Tenths = Tenths(49);
 
     // Question 21 and the kept threshold, in volts.
     pub const LEAST_VOLTS: u16 = 50;

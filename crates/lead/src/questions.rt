@@ -84,7 +84,7 @@ impl Meter {
         ensures { λ r. ⌜ r ≡ atMost (self .volts) dischargedVolts ⌝ }
     {
         let volts = self.volts;
-        volts.is_at_most_units(Figure::DISCHARGED_VOLTS)
+        volts.is_at_most(Figure::DISCHARGED_VOLTS)
     }
 
     // For the move out of 7.
@@ -92,7 +92,7 @@ impl Meter {
         ensures { λ r. ⌜ r ≡ atMost (self .amperes) residualAmperes ⌝ }
     {
         let amperes = self.amperes;
-        amperes.is_at_most(Tenths(Figure::RESIDUAL_TENTHS))
+        amperes.is_at_most(Figure::RESIDUAL_AMPERES)
     }
 }
 
@@ -110,8 +110,9 @@ impl View {
         ensures { λ r. ⌜ r ≡ atMost (self .meter .amperes) (mostAmperes (self .rated)) ⌝ }
     {
         let amperes = self.meter.amperes;
-        let most = Tenths::PER_UNIT * (self.rated as u16) + Figure::MORE_TENTHS;
-        amperes.is_at_most(Tenths(most))
+        let more = Figure::MORE_AMPERES;
+        let most = Tenths(Tenths::PER_UNIT * (self.rated as u16) + more.0);
+        amperes.is_at_most(most)
     }
 }
 

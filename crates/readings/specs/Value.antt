@@ -17,7 +17,7 @@ within top x = le (number 0) x && le x (number top)
 abbrev pub ceiling : ℕ → ℕ → ℕ
 ceiling a c = (a + (c - 1)) / c
 
--- "Tenths of volts and amperes" (2026-04): a volt and an ampere have so many
+-- 2026-04, "Tenths of volts and amperes": so many to a volt and to an ampere
 abbrev pub tenthsPerUnit : ℕ
 tenthsPerUnit = 10
 

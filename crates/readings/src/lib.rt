@@ -25,7 +25,7 @@ struct Measurement {
     resistance: f32,
 }
 
-// Tenths of a volt or an ampere (2026-04). Whole volts and amperes are plain numbers: only what stands here joins the two.
+// Tenths of a volt or an ampere (2026-04). Whole volts and amperes are plain numbers.
 pub struct Tenths(pub u16);
 
 // A good reading has the volts at the connector and the amperes.
@@ -58,7 +58,7 @@ impl Tenths {
         self.0 <= most.0
     }
 
-    // The limit is in whole volts or amperes, of which two bytes hold more than they hold tenths.
+    // The limit is in whole volts or amperes. In tenths it may not fit two bytes.
     pub fn is_at_most_units(self, units: u16) -> bool
         ensures { λ r. ⌜ r ≡ atMost self (ofUnits units) ⌝ }
     {

@@ -1,9 +1,8 @@
 -- `lead::state::HeardLead::ask` meets its contract. Row by row, those before it passed. Assumes nothing.
 use borrow.Author.Needs.{needs}
-use mathlib.Core.Path.{_≡_, ap, _∙_}
-use mathlib.Core.Bool.{Bool, not, _&&_}
+use mathlib.Core.Path.{_∙_}
+use mathlib.Core.Bool.{Bool}
 use Prim.Native.Nat.{ℕ}
-use Rattle.common.specs.Tests.{between}
 use Rattle.lead.specs.Questions.{questions, ask}
 use Rattle.lead.proofs.FirstNo.{Row, first-row, next-row, stops, passes}
 use Rattle.lead.proofs.state.HeardLead.ask.Statement.{statement}
@@ -57,17 +56,13 @@ row-15 : (c : tie.After-is-no5) → Up-to 15 (from-15 c) (c .is-no5 .result)
 unfolding questions
 row-15 c = next-row (row-14 (c .before .before)) (c .before .if4 .left) tt (c .is-no5 .ensures)
 
--- a no to an answer is a no to what the answer is
-abbrev answered : (s : tie.Start) → {a b : Bool} → a ≡ b → (between 5 7 (s .args .self .lead .stage .phase) && not a) ≡ (between 5 7 (s .args .self .lead .stage .phase) && not b)
-answered s e = ap (λ answer. between 5 7 (s .args .self .lead .stage .phase) && not answer) e
-
 row-16 : (c : tie.After-is-no6) → Up-to 16 (from-16 c) (c .is-no6 .result)
 unfolding questions
-row-16 c = next-row (row-15 (c .before .before .before)) (c .before .before .if5 .left) tt (c .is-no6 .ensures ∙ answered (from-16 c) (c .before .volts-fit .ensures))
+row-16 c = next-row (row-15 (c .before .before .before)) (c .before .before .if5 .left) tt (rw (c .before .volts-fit .ensures) at (c .is-no6 .ensures))
 
 row-17 : (c : tie.After-is-no7) → Up-to 17 (from-17 c) (c .is-no7 .result)
 unfolding questions
-row-17 c = next-row (row-16 (c .before .before .before)) (c .before .before .if6 .left) tt (c .is-no7 .ensures ∙ answered (from-17 c) (c .before .amperes-fit .ensures))
+row-17 c = next-row (row-16 (c .before .before .before)) (c .before .before .if6 .left) tt (rw (c .before .amperes-fit .ensures) at (c .is-no7 .ensures))
 
 row-18 : (c : tie.After-is-no8) → Up-to 18 (from-18 c) (c .is-no8 .result)
 unfolding questions
