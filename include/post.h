@@ -366,7 +366,7 @@ static inline float post_get_float(const uint8_t *place) {
 #define POST_REASON_PERMISSION_OPEN      14 /* the car's permission wire opened */
 #define POST_REASON_BAD_READING          15 /* volts or amperes missing or out of range */
 #define POST_REASON_OVERVOLTAGE          16 /* connector volts above the threshold */
-#define POST_REASON_OVERCURRENT          17 /* tenths of amperes above 10 * rated + 25 */
+#define POST_REASON_OVERCURRENT          17 /* amperes above rated + 2.5 */
 #define POST_REASON_UNLOCKED             18 /* the lock contact opened */
 #define POST_REASON_CAR_SILENT           19 /* no H'102 for ten ticks */
 #define POST_REASON_CAR_FAULT            20 /* reported by the car */

@@ -516,6 +516,10 @@ impl Turn {
     }
 }
 
+fn is_whole(tenths: Tenths) -> bool {
+    tenths == Tenths(tenths.rounded_up() * Tenths::IN_A_WHOLE)
+}
+
 #[rustfmt::skip]
 const TURNS: &[Fact<Turn>] = &[
     (REACHED, "command raised", |turn| turn.after.command > turn.before.command),
@@ -594,6 +598,8 @@ const TURNS: &[Fact<Turn>] = &[
     (REACHED, "amperes at rated + 2.5 in 5-7", |turn| turn.began_in(5..=7) && turn.value(AMPERES) == Some(turn.standing.most_amperes())),
     (REACHED, "amperes just above rated + 2.5", |turn| turn.stopped_for(17)
         && turn.value(AMPERES) == Some(turn.standing.most_amperes().next_up())),
+    (REACHED, "amperes 255 shown as they are", |turn| matches!(turn.after.phase, 1..=9)
+        && turn.measured.is_some_and(|of| of.amperes.rounded_up() == MOST_AMPERES_SHOWN.into())),
     (REACHED, "amperes above 255 shown as 255", |turn| matches!(turn.after.phase, 1..=9)
         && turn.measured.is_some_and(|of| of.amperes > Tenths::of_whole(MOST_AMPERES_SHOWN)) && u16::from(turn.h109(3)) == MOST_AMPERES_SHOWN),
     (REACHED, "49 tenths end 7", |turn| turn.moved_from(7) && turn.value(AMPERES) == Some(largest(SAFE_AMPERES_IN_TENTHS))
@@ -602,9 +608,9 @@ const TURNS: &[Fact<Turn>] = &[
     (REACHED, "4.9 A, which are 50 tenths, don't end 7", |turn| turn.stayed_in(7) && turn.before.command == 0
         && turn.value(AMPERES) == Some(largest(SAFE_AMPERES_IN_TENTHS).next_up())),
     (REACHED, "H'109 with volts and amperes rounded up", |turn| matches!(turn.after.phase, 1..=9)
-        && turn.measured.is_some_and(|of| of.connector_volts.0 % 10 != 0 && of.amperes.0 % 10 != 0)),
+        && turn.measured.is_some_and(|of| !is_whole(of.connector_volts) && !is_whole(of.amperes))),
     (REACHED, "H'109 with whole volts and amperes above 0", |turn| matches!(turn.after.phase, 1..=9)
-        && turn.measured.is_some_and(|of| of.connector_volts.0 % 10 == 0 && of.amperes.0 % 10 == 0 && of.connector_volts.min(of.amperes).0 > 0)),
+        && turn.measured.is_some_and(|of| is_whole(of.connector_volts) && is_whole(of.amperes) && of.connector_volts.min(of.amperes) > Tenths(0))),
     (REACHED, "no good reading in 9", |turn| turn.stayed_in(9) && turn.measured.is_none()),
     (REACHED, "insulation at its least", |turn| turn.moved_from(3) && turn.value(OHMS) == Some(turn.standing.least_ohms())),
     (REACHED, "insulation just below its least", |turn| turn.stopped_for(27)

@@ -45,7 +45,7 @@ pub struct Meter {
 pub struct Tenths(pub u32);
 
 impl Tenths {
-    const IN_A_WHOLE: u32 = 10;
+    pub const IN_A_WHOLE: u32 = 10;
 
     pub const fn of_whole(number: u16) -> Tenths {
         Tenths(number as u32 * Self::IN_A_WHOLE)

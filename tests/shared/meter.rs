@@ -12,8 +12,8 @@ const NAN: f32 = f32::NAN;
 const INFINITY: f32 = f32::INFINITY;
 
 #[rustfmt::skip]
-const ODD: [f32; 18] = [
-    NAN, -NAN, SIGNALLING, INFINITY, -INFINITY, 0.0, -0.0, TINY, -TINY, f32::MIN_POSITIVE, f32::MAX, -1.0, 255.5,
+const ODD: [f32; 19] = [
+    NAN, -NAN, SIGNALLING, INFINITY, -INFINITY, 0.0, -0.0, TINY, -TINY, f32::MIN_POSITIVE, f32::MAX, -1.0, 255.0, 255.5,
     MOST_AMPERES, MOST_AMPERES.next_up(), MOST_VOLTS, MOST_VOLTS.next_up(), 65_537.0,
 ];
 
@@ -31,7 +31,7 @@ pub fn odd(dice: &mut Dice) -> f32 {
 /// The largest float that is no more than so many tenths. Few tenths are floats: the float nearest
 /// to 4.9 is above it.
 pub fn largest(tenths: Tenths) -> f32 {
-    let exact = f64::from(tenths.0) / 10.0;
+    let exact = f64::from(tenths.0) / f64::from(Tenths::IN_A_WHOLE);
     let nearest = exact as f32;
     if f64::from(nearest) > exact {
         nearest.next_down()

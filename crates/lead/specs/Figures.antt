@@ -10,8 +10,11 @@ abbrev pub mostVolts : ℕ → Tenths
 mostVolts threshold = ofUnits threshold
 
 -- 2026-04: "Question 17 allows rated + 2.5 A"
+abbrev pub moreAmperes : Tenths
+moreAmperes = tenths 25
+
 abbrev pub mostAmperes : ℕ → Tenths
-mostAmperes rated = tenths (tenthsPerUnit * rated + 25)
+mostAmperes rated = tenths (tenthsPerUnit * rated + moreAmperes .0)
 
 -- the moves out of 4 and 9: "connector volts at most 10"; 2026-04, as above
 abbrev pub dischargedVolts : Tenths

@@ -98,7 +98,7 @@ impl Meter {
 
 impl View {
     // Question 16.
-    fn volts_fit(self) -> bool
+    fn is_voltage_allowed(self) -> bool
         ensures { λ r. ⌜ r ≡ atMost (self .meter .volts) (mostVolts (self .threshold)) ⌝ }
     {
         let volts = self.meter.volts;
@@ -106,7 +106,7 @@ impl View {
     }
 
     // Question 17.
-    fn amperes_fit(self) -> bool
+    fn is_current_allowed(self) -> bool
         ensures { λ r. ⌜ r ≡ atMost (self .meter .amperes) (mostAmperes (self .rated)) ⌝ }
     {
         let amperes = self.meter.amperes;
@@ -200,10 +200,10 @@ impl HeardLead {
         if is_no(p, 3, 7, meter.good) {
             return Verdict::Urgent(Reason::BAD_READING);
         }
-        if is_no(p, 5, 7, view.volts_fit()) {
+        if is_no(p, 5, 7, view.is_voltage_allowed()) {
             return Verdict::Urgent(Reason::OVERVOLTAGE);
         }
-        if is_no(p, 5, 7, view.amperes_fit()) {
+        if is_no(p, 5, 7, view.is_current_allowed()) {
             return Verdict::Urgent(Reason::OVERCURRENT);
         }
         if is_no(p, 3, 7, contacts.lock) {

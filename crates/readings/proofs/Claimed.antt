@@ -1,23 +1,27 @@
--- The claims of request 2026-04 hold, and the floats worked out are what they are said to be. Assumes nothing.
-use mathlib.Core.Path.{_≡_, refl, sym, ap, _∙_, subst}
+-- The claims of request 2026-04 hold, and what is worked out is what it is said to be. Assumes nothing.
+use mathlib.Core.Path.{_≡_, refl, ap, _∙_, subst}
 use mathlib.Core.Bool.{Bool, true, false, cond}
 use mathlib.Core.List.{map}
 use Prim.Native.Nat.{ℕ}
 use native.Mathlib.Omega.{arith}
-use lib.Dec.{T, lit<}
-use lib.Ieee.{Float, binary32, ofBits}
+use native.Mathlib.Nat.{le-antisymm}
+use lib.Dec.{T, leb, lit<}
+use lib.Ieee.{Float, binary32, ofBits, ofInt, le, lt, eq, mul, sub}
 use Rattle.readings.specs.Value.{within, least, tenthsPerUnit}
-use Rattle.readings.specs.Readings.{inRange, inTenths, connectorVolts, judgedMeasurement, allowedResistance, tenths, wholeUnits}
-use Rattle.readings.specs.Claims.{OfEachGood, LeastTenth, ShownWhole, WholeLimits, workedFloats}
+use Rattle.readings.specs.Readings.{readingOf, inRange, connectorVolts, inTenths, judgedOf, allowedResistance, tenths, wholeUnits}
+use Rattle.readings.specs.Claims.{IsLeast, OfEachGood, LeastTenth, LeastWhole, WholeLimits, workedFloats, workedReadings}
 use Rattle.readings.specs.declared.Measurement.{Measurement}
 use Rattle.readings.specs.declared.Tenths.{Tenths}
-use Rattle.readings.specs.declared.Judged.{Judged}
 use Rattle.readings.specs.declared.Judged.the-variants.{Good, Bad}
 use Rattle.readings.proofs.Ceiling as ceilings
 use Rattle.readings.proofs.Least.{is-least-tenth, is-least-whole}
 use Rattle.readings.proofs.Connector.{figures-within}
 
--- what is said of every float in range and its tenths is said of both figures of every good reading
+-- there is one least number of parts
+pub only-one : {parts : ℕ} {x : Float} {m n : ℕ} → IsLeast parts x m → IsLeast parts x n → m ≡ n
+only-one a b = le-antisymm (a .nothing-smaller _ (b .not-below)) (b .nothing-smaller _ (a .not-below))
+
+-- what is said of every float in range and its tenths is said of both values of every good reading
 of-each-good : (Said : Float → Tenths → Type 0) → ((x : Float) → T (within 1000 x) → Said x (tenths (least x))) → OfEachGood Said
 unfolding allowedResistance inTenths
 of-each-good Said each volts amperes resistance v a allowed = go (inRange m) refl
@@ -36,11 +40,13 @@ of-each-good Said each volts amperes resistance v a allowed = go (inRange m) ref
 pub least-tenth : LeastTenth
 least-tenth = of-each-good _ is-least-tenth
 
-pub shown-whole : ShownWhole
-shown-whole = of-each-good _ is-least-whole
+pub least-whole : LeastWhole
+least-whole = of-each-good _ is-least-whole
 
 pub whole-limits : WholeLimits
-whole-limits figure units = ceilings.whole-limit (figure .0) tenthsPerUnit units (lit< tt)
+whole-limits =
+    of-each-good _
+    (λ x t n units whole. ceilings.whole-limit (least x) tenthsPerUnit units (lit< tt) ∙ ap (λ (m : ℕ). leb m units) (only-one (is-least-whole x t) whole))
 
 pub worked-tenths : map (λ case. least (ofBits binary32 (case .bits))) workedFloats ≡ map (λ case. case .tenths) workedFloats
 unfolding least ofBits
@@ -48,3 +54,14 @@ worked-tenths = refl
 
 pub worked-whole : map (λ case. wholeUnits (tenths (case .tenths))) workedFloats ≡ map (λ case. case .whole) workedFloats
 worked-whole = refl
+
+-- the readings worked out are good, with cable resistances that are allowed
+pub worked-readings :
+    map (λ case. judgedOf (readingOf true (case .volts)) (readingOf true (case .amperes)) (case .resistance)) workedReadings
+    ≡ map (λ case. Good (tenths (case .connector-tenths)) (tenths (case .ampere-tenths))) workedReadings
+unfolding inRange connectorVolts inTenths least ofBits ofInt le lt eq mul sub
+worked-readings = refl
+
+pub worked-resistances : map (λ case. allowedResistance (case .resistance)) workedReadings ≡ map (λ case. true) workedReadings
+unfolding allowedResistance ofBits ofInt le lt eq
+worked-resistances = refl

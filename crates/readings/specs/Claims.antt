@@ -1,11 +1,11 @@
--- Request 2026-04: what it says of readings, and some floats worked out. Definitions only.
+-- Request 2026-04: what it says of readings, and some floats and readings worked out. Definitions only.
 use mathlib.Core.Bool.{true}
 use mathlib.Core.List.{List, [], _∷_}
 use mathlib.Core.Path.{_≡_}
 use Prim.Native.Nat.{ℕ, _≤_}
 use lib.Dec.{leb}
 use lib.Ieee.{Float, binary32, ofBits}
-use Rattle.readings.specs.Value.{tenthsPerUnit, NotBelow}
+use Rattle.readings.specs.Value.{NotBelow}
 use Rattle.readings.specs.Readings.{connectorVolts, judgedOf, allowedResistance, ofUnits, atMost, wholeUnits}
 use Rattle.readings.specs.declared.Reading.the-variants.{Value}
 use Rattle.readings.specs.declared.Tenths.{Tenths}
@@ -16,26 +16,30 @@ pub record IsLeast (parts : ℕ) (x : Float) (n : ℕ) : Type 0 where
   pub not-below : NotBelow parts x n
   pub nothing-smaller : (k : ℕ) → NotBelow parts x k → n ≤ k
 
--- something said of both figures of every good reading: of the connector volts after both roundings and their tenths, and of the amperes as
--- given and theirs
+-- the volts at the connector, both roundings done, of a cable resistance that is given by its float's bits
+abbrev pub connectorOf : Float → Float → ℕ → Float
+connectorOf volts amperes resistance = connectorVolts (record { volts = volts; amperes = amperes; resistance = ofBits binary32 resistance })
+
+-- Something said of both values of every good reading and of the tenths that they become. The cable resistance is one that setup's question 4
+-- and the good-state check let through.
 abbrev pub OfEachGood : (Float → Tenths → Type 0) → Type 0
 OfEachGood Said =
     (volts amperes : Float) (resistance : ℕ) (v a : Tenths)
     → allowedResistance resistance ≡ true
     → judgedOf (Value volts) (Value amperes) resistance ≡ Good v a
-    → Said (connectorVolts (record { volts = volts; amperes = amperes; resistance = ofBits binary32 resistance })) v × Said amperes a
+    → Said (connectorOf volts amperes resistance) v × Said amperes a
 
 -- "Readings now become the least whole tenth not below the exact value of the float."
 abbrev pub LeastTenth : Type 0
-LeastTenth = OfEachGood (λ x figure. IsLeast tenthsPerUnit x (figure .0))
+LeastTenth = OfEachGood (λ x judged. IsLeast 10 x (judged .0))
 
--- "H'109 still carries whole numbers, rounded up from tenths": what it carries is document 01's "least whole number not below" the value
-abbrev pub ShownWhole : Type 0
-ShownWhole = OfEachGood (λ x figure. IsLeast 1 x (wholeUnits figure))
+-- "rounded up from tenths": that is the least whole number not below the value itself
+abbrev pub LeastWhole : Type 0
+LeastWhole = OfEachGood (λ x judged. IsLeast 1 x (wholeUnits judged))
 
--- "The 10 V limits and question 16 compare in tenths": a limit of whole volts answers in tenths as it does in the whole volts that are shown
+-- "compare in tenths": a limit of whole volts or amperes answers in tenths as it does of the least whole number not below the value
 abbrev pub WholeLimits : Type 0
-WholeLimits = (figure : Tenths) (units : ℕ) → atMost figure (ofUnits units) ≡ leb (wholeUnits figure) units
+WholeLimits = OfEachGood (λ x judged. (n units : ℕ) → IsLeast 1 x n → atMost judged (ofUnits units) ≡ leb n units)
 
 -- the bits of a float, its tenths and the whole number that H'109 carries of it
 pub record Worked : Type 0 where
@@ -62,4 +66,22 @@ workedFloats =
     ∷ record { bits = 0x42ff_0001; tenths = 1276; whole = 128 }
     -- the largest good volts, 1000
     ∷ record { bits = 0x447a_0000; tenths = 10000; whole = 1000 }
+    ∷ []
+
+-- the bits of volts, amperes and cable resistance, and the tenths of the good reading that they are
+pub record WorkedReading : Type 0 where
+  pub volts : ℕ
+  pub amperes : ℕ
+  pub resistance : ℕ
+  pub connector-tenths : ℕ
+  pub ampere-tenths : ℕ
+
+abbrev pub workedReadings : List WorkedReading
+workedReadings =
+    -- 400.25 V and 0.1 A, no resistance
+    record { volts = 0x43c8_2000; amperes = 0x3dcc_cccd; resistance = 0; connector-tenths = 4003; ampere-tenths = 2 }
+    -- 400 V, 100 A, 0.5 ohm
+    ∷ record { volts = 0x43c8_0000; amperes = 0x42c8_0000; resistance = 0x3f00_0000; connector-tenths = 3500; ampere-tenths = 1000 }
+    -- 1 V, 400 A, 1 ohm: a negative difference
+    ∷ record { volts = 0x3f80_0000; amperes = 0x43c8_0000; resistance = 0x3f80_0000; connector-tenths = 0; ampere-tenths = 4000 }
     ∷ []

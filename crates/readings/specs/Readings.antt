@@ -50,11 +50,11 @@ ofUnits units = tenths (tenthsPerUnit * units)
 
 -- what readings are asked: "at most" some tenths
 abbrev pub atMost : Tenths → Tenths → Bool
-atMost figure most = leb (figure .0) (most .0)
+atMost judged most = leb (judged .0) (most .0)
 
 -- 2026-04: "H'109 still carries whole numbers, rounded up from tenths."
 abbrev pub wholeUnits : Tenths → ℕ
-wholeUnits figure = ceiling (figure .0) tenthsPerUnit
+wholeUnits judged = ceiling (judged .0) tenthsPerUnit
 
 -- question 27: "Resistance, if given, at least 100 ohms × threshold? … A NaN is a no, plus infinity a yes."
 abbrev pub insulated : ℕ → Reading → Bool

@@ -58,11 +58,11 @@ row-15 c = next-row (row-14 (c .before .before)) (c .before .if4 .left) tt (c .i
 
 row-16 : (c : tie.After-is-no6) → Up-to 16 (from-16 c) (c .is-no6 .result)
 unfolding questions
-row-16 c = next-row (row-15 (c .before .before .before)) (c .before .before .if5 .left) tt (rw (c .before .volts-fit .ensures) at (c .is-no6 .ensures))
+row-16 c = next-row (row-15 (c .before .before .before)) (c .before .before .if5 .left) tt (rw (c .before .is-voltage-allowed .ensures) at (c .is-no6 .ensures))
 
 row-17 : (c : tie.After-is-no7) → Up-to 17 (from-17 c) (c .is-no7 .result)
 unfolding questions
-row-17 c = next-row (row-16 (c .before .before .before)) (c .before .before .if6 .left) tt (rw (c .before .amperes-fit .ensures) at (c .is-no7 .ensures))
+row-17 c = next-row (row-16 (c .before .before .before)) (c .before .before .if6 .left) tt (rw (c .before .is-current-allowed .ensures) at (c .is-no7 .ensures))
 
 row-18 : (c : tie.After-is-no8) → Up-to 18 (from-18 c) (c .is-no8 .result)
 unfolding questions
