@@ -16,7 +16,7 @@ moreAmperes = tenths 25
 abbrev pub mostAmperes : ℕ → Tenths
 mostAmperes rated = tenths (tenthsPerUnit * rated + moreAmperes .0)
 
--- the moves out of 4 and 9: "connector volts at most 10"; 2026-04, as above
+-- the moves out of 4 and 9: "connector volts at most 10"; 2026-04: "The 10 V limits … compare in tenths."
 abbrev pub dischargedVolts : Tenths
 dischargedVolts = ofUnits 10
 

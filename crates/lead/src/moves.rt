@@ -39,7 +39,7 @@ impl HeardLead {
             4 => meter.is_discharged(),
             5 => signals.closed,
             6 => false,
-            7 => { ((lead.command == 0) & meter.is_ramped_down()) | (Figure::RAMP_DOWN_END <= age) }
+            7 => ((lead.command == 0) & meter.is_ramped_down()) | (Figure::RAMP_DOWN_END <= age),
             8 => !signals.closed | (Figure::WELD_CHECK_END <= age),
             9 => meter.good & meter.is_discharged(),
             10 => !contacts.plug,

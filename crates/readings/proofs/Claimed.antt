@@ -15,7 +15,7 @@ use Rattle.readings.specs.declared.Tenths.{Tenths}
 use Rattle.readings.specs.declared.Judged.the-variants.{Good, Bad}
 use Rattle.readings.proofs.Ceiling as ceilings
 use Rattle.readings.proofs.Least.{is-least-tenth, is-least-whole}
-use Rattle.readings.proofs.Connector.{figures-within}
+use Rattle.readings.proofs.Connector.{values-within}
 
 -- there is one least number of parts
 pub only-one : {parts : ℕ} {x : Float} {m n : ℕ} → IsLeast parts x m → IsLeast parts x n → m ≡ n
@@ -31,7 +31,7 @@ of-each-good Said each volts amperes resistance v a allowed = go (inRange m) ref
 
     go : (b : Bool) → inRange m ≡ b → cond b (inTenths m) Bad ≡ Good v a → Said (connectorVolts m) v × Said amperes a
     go true r e =
-        let within = figures-within m r allowed in
+        let within = values-within m r allowed in
         let volts-are : tenths (least (connectorVolts m)) ≡ v = cc in
         let amperes-are : tenths (least amperes) ≡ a = cc in
         (subst (Said (connectorVolts m)) volts-are (each (connectorVolts m) (within .0)), subst (Said amperes) amperes-are (each amperes (within .1)))

@@ -147,14 +147,14 @@ connector-within m hv ha hr = go (lt d (number 0)) refl
     go true e = tt
     go false e = and-i (le (number 0) d) (le d (number 1000)) (from-zero d top e) top
 
--- both figures of a reading in range are in the range of `least`
-pub figures-within :
+-- both values of a reading in range are in the range of `least`
+pub values-within :
     (m : Measurement)
     → inRange m ≡ true
     → within 1 (m .resistance) ≡ true
     → T (within 1000 (connectorVolts m)) × T (within 1000 (m .amperes))
 unfolding inRange
-figures-within m e r =
+values-within m e r =
     let volts = and-l (within 1000 (m .volts)) (within 400 (m .amperes)) (holds e) in
     let amperes = wider 400 (m .amperes) (lit≤ tt) (and-r (within 1000 (m .volts)) (within 400 (m .amperes)) (holds e)) in
     (connector-within m volts amperes (wider 1 (m .resistance) (lit≤ tt) (holds r)), amperes)
