@@ -1,7 +1,8 @@
 /*
  * A small host: a post with two leads, ticked through a written session. It prints what happens
- * at the leads, in brackets, and what the support desk sees: phase, amperes, threshold, reason,
- * which switches are on, and the kilowatt-hours of a lead when it ends.
+ * at the leads, in brackets, and what the support desk sees: phase, amperes, what the car is
+ * offered while it charges, threshold, reason, which switches are on, and the kilowatt-hours of a
+ * lead when it ends.
  *
  * The session shows why one lead may give 62 A and the lead beside it 125 A: both cars ask for
  * 125 A and the post has 50,000 W, so that each lead gets 25,000 W. At 400 V that carries 62
@@ -325,6 +326,8 @@ static void show_lead(unsigned now, unsigned lead, const uint8_t *record, const 
 
     if (moved || bent) {
         printf("tick %3u  lead %u: %s, %d A", now, lead + 1, NAME_OF(phases, phase), amperes);
+        if (phase == POST_PHASE_CHARGING)
+            printf(" of %d A offered", record[POST_OUTPUT_H108 + POST_H108_OFFERED_AMPERES]);
         if (threshold != 0)
             printf(", threshold %d V", threshold);
         if (reason != POST_REASON_NONE)

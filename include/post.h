@@ -138,7 +138,8 @@ static inline float post_get_float(const uint8_t *place) {
  *    than a tick: hardware sees to them on a path of its own, A.5.2.7.)
  * 2. At 5 A or less and not before, in an emergency too (A.7.2.8): d1, d2 and the post's relays
  *    open. Up to here a tick that is done again takes over: its output is driven as always, but for
- *    the current, which rises from where it stands by no more than 2 A a tick.
+ *    the current, which rises from where it stands by no more than 2 A a tick. H'108 knows nothing
+ *    of this: until then the car is offered more than it gets.
  *    From here on the charge is over, as none recovers by itself (A.7.2.10): whatever is commanded,
  *    no current, and d1, d2 and the relays stay open until the lead shows POST_PHASE_IDLE.
  * 3. The lock stays locked until the connector has less than 10 V (Table A.17).
@@ -325,16 +326,24 @@ static inline float post_get_float(const uint8_t *place) {
 #define POST_SWITCH_FRAMES 0x08 /* H'108 and H'109 are to be sent */
 
 /* Places in the data of the post's frames. */
-#define POST_H108_WELD_DETECTION 0 /* always 1 */
-#define POST_H108_RATED_VOLTS    1 /* 2 bytes */
-#define POST_H108_RATED_AMPERES  3
-#define POST_H108_THRESHOLD      4 /* 2 bytes, volts; 0 until it is known */
-#define POST_H109_PROTOCOL       0 /* always 2 */
-#define POST_H109_VOLTS          1 /* 2 bytes, at the connector, rounded up */
-#define POST_H109_AMPERES        3 /* rounded up, at most 255 */
-#define POST_H109_FLAGS          5 /* POST_FLAG_ bits */
-#define POST_H109_TIME_TENS      6 /* remaining time, tens of seconds or POST_H101_USE_MINUTES */
-#define POST_H109_TIME_MINUTES   7
+#define POST_H108_WELD_DETECTION  0 /* always 1 */
+#define POST_H108_RATED_VOLTS     1 /* 2 bytes */
+#define POST_H108_OFFERED_AMPERES 3 /* see below */
+#define POST_H108_THRESHOLD       4 /* 2 bytes, volts; 0 until it is known */
+#define POST_H109_PROTOCOL        0 /* always 2 */
+#define POST_H109_VOLTS           1 /* 2 bytes, at the connector, rounded up */
+#define POST_H109_AMPERES         3 /* rounded up, at most 255 */
+#define POST_H109_FLAGS           5 /* POST_FLAG_ bits */
+#define POST_H109_TIME_TENS       6 /* remaining time, tens of seconds or POST_H101_USE_MINUTES */
+#define POST_H109_TIME_MINUTES    7
+
+/*
+ * Amperes offered: the rated amperes, but while the lead charges (POST_PHASE_CHARGING) no more than
+ * this tick's level carries at its threshold. The level is the post's, one for all leads: the power
+ * limit where all that the leads want fits into it, else the watts up to which each gets what it
+ * wants. So the byte may change with every tick, POST_OUTPUT_COMMAND is never above it, and cars
+ * watch it: both frames are to be sent as this tick has them, together with its command.
+ */
 
 #define POST_FLAG_CHARGING           0x01
 #define POST_FLAG_MALFUNCTION        0x02 /* of the post: reasons 13, 15 to 18, 27 */

@@ -63,7 +63,7 @@ static void check_output(const struct row *row, uint8_t reason) {
         {NAMED(POST_OUTPUT_SPARE), 2, 0},
         {NAMED(POST_OUTPUT_H108 + POST_H108_WELD_DETECTION), 1, sent ? 1 : 0},
         {NAMED(POST_OUTPUT_H108 + POST_H108_RATED_VOLTS), 2, sent ? RATED_VOLTS : 0},
-        {NAMED(POST_OUTPUT_H108 + POST_H108_RATED_AMPERES), 1, sent ? RATED_AMPERES : 0},
+        {NAMED(POST_OUTPUT_H108 + POST_H108_OFFERED_AMPERES), 1, sent ? RATED_AMPERES : 0},
         {NAMED(POST_OUTPUT_H108 + POST_H108_THRESHOLD), 2, row->threshold},
         {NAMED(POST_OUTPUT_H109 + POST_H109_PROTOCOL), 1, sent ? 2 : 0},
         {NAMED(POST_OUTPUT_H109 + POST_H109_VOLTS), 2, row->volts},
@@ -107,16 +107,26 @@ static void try_minutes(void) {
     CHECK(output_at(POST_OUTPUT_H109 + POST_H109_TIME_MINUTES, 1), TIME_MINUTES);
 }
 
-/* The tick that begins to charge wants 2 A, at 400 V. */
+/* The tick that begins to charge wants 2 A, at 400 V. The car is offered what the limit carries, at
+ * most the rated amperes. */
 static void try_power_limit(void) {
     static const struct {
-        uint32_t watts, amperes;
-    } limits[] = {{800, 2}, {799, 1}, {399, 0}, {0x01000000, 2}, {USUAL_LIMIT, 2}};
+        uint32_t watts, amperes, offered;
+    } limits[] = {
+        {800, 2, 2},
+        {799, 1, 1},
+        {399, 0, 0},
+        {49999, 2, RATED_AMPERES - 1},
+        {50000, 2, RATED_AMPERES},
+        {0x01000000, 2, RATED_AMPERES},
+        {USUAL_LIMIT, 2, RATED_AMPERES},
+    };
     for (unsigned i = 0; i < sizeof limits / sizeof *limits; i++) {
         about("power limit", limits[i].watts);
         power_limit = limits[i].watts;
         reach(POST_PHASE_CHARGING);
         CHECK(output_at(POST_OUTPUT_COMMAND, 1), limits[i].amperes);
+        CHECK(output_at(POST_OUTPUT_H108 + POST_H108_OFFERED_AMPERES, 1), limits[i].offered);
     }
 }
 

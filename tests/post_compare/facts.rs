@@ -211,6 +211,10 @@ fn wants_rise(turns: &[Turn], order: [usize; MOST_LEADS]) -> bool {
         && order.windows(2).all(|pair| turns[pair[0]].want < turns[pair[1]].want)
 }
 
+fn charging(turns: &[Turn]) -> impl Iterator<Item = &Turn> {
+    turns.iter().filter(|turn| turn.after.phase == 6)
+}
+
 fn any_wants_in(turns: &[Turn], phase: u8) -> bool {
     let mut those = turns.iter().filter(|turn| turn.after.phase == phase);
     those.any(|turn| turn.want > 0)
@@ -237,6 +241,14 @@ const POSTS: &[Fact<[Turn]>] = &[
     (REACHED, "one energy grows, another is cleared", |turns| turns.iter().any(Turn::grows) && turns.iter().any(Turn::clears)),
     (HANDED_IN, "one energy grows, another is cut short", |turns| turns.iter().any(|turn| turn.grows() && turn.watts() < turn.room())
         && turns.iter().any(|turn| turn.grows() && turn.watts() > turn.room())),
+    (REACHED, "leads in 6 are offered different amperes", |turns| charging(turns).any(|turn| charging(turns).any(|other|
+        turn.offer() != other.offer()))),
+    (REACHED, "leads in 6 are offered the same, not the rating, and command different amperes", |turns|
+        charging(turns).any(|turn| turn.offer() < turn.rated() && charging(turns).any(|other|
+            turn.offer() == other.offer() && turn.after.command != other.after.command))),
+    // The level is the allowance then.
+    (REACHED, "all wants are met, and the offers in 6 come to more than the allowance", |turns| !any_short(turns)
+        && charging(turns).map(|turn| turn.offer() * turn.volts()).sum::<u32>() > turns[0].level),
     (REACHED, "another cable resistance", |turns| !CABLES.iter().any(|cable| cable.1 == turns[0].standing.rating.cable_resistance)),
 ];
 
@@ -288,6 +300,7 @@ pub fn of_turns() -> Table<Turn> {
         table.row(REACHED, format!("stop 20 for fault {bit} alone"), move |turn| turn.stopped_for_faults(1 << bit, 0));
     }
     add_energies(&mut table);
+    add_offers(&mut table);
     // A session leaves phase 1 after all three frames.
     for seen in 0..SEEN_ALL {
         table.row(HANDED_IN, format!("seen {seen} in 2-6"), move |turn| turn.before.seen == seen && turn.began_in(2..=6));
@@ -328,6 +341,27 @@ pub fn of_turns() -> Table<Turn> {
         }
     }
     table
+}
+
+/// What H'108 offers, by phase and level.
+#[rustfmt::skip]
+fn add_offers(table: &mut Table<Turn>) {
+    // Where there is no threshold yet, or none any more.
+    table.row(REACHED, "the rating offered in 1".to_string(), |turn| turn.after.phase == 1 && turn.offer() == turn.rated());
+    table.row(HANDED_IN, "the rating offered in 8 or 9 without a threshold".to_string(), |turn|
+        matches!(turn.after.phase, 8 | 9) && turn.volts() == 0 && turn.offer() == turn.rated());
+    for phase in [2, 3, 4, 5, 7, 8, 9] {
+        table.row(REACHED, format!("the rating offered in {phase}, where the level carries less"), move |turn|
+            turn.after.phase == phase && turn.level_below_rated() && turn.offer() == turn.rated());
+    }
+    for phase in [0, 10] {
+        table.row(REACHED, format!("nothing offered in {phase}, where the level carries something"), move |turn|
+            turn.after.phase == phase && turn.volts() > 0 && turn.level > turn.volts() && turn.offer() == 0);
+    }
+    for (word, into) in [("ordinary", 7), ("urgent", 9)] {
+        table.row(REACHED, format!("the rating offered by an {word} stop from 6, where the level carries less"), move |turn|
+            turn.stopped_in(6) && turn.after.phase == into && turn.level_below_rated() && turn.offer() == turn.rated());
+    }
 }
 
 /// Energies kept and at their edges, phase by phase and byte by byte.
@@ -500,6 +534,30 @@ impl Turn {
         self.measured.is_some_and(|of| of.connector_volts == volts)
     }
 
+    /// Byte 3 of H'108.
+    fn offer(&self) -> u32 {
+        self.output[output_place::H108 + 3].into()
+    }
+
+    fn rated(&self) -> u32 {
+        self.standing.rating.amperes.into()
+    }
+
+    fn volts(&self) -> u32 {
+        self.after.threshold.into()
+    }
+
+    /// Whether the level carries fewer than the rated amperes.
+    fn level_below_rated(&self) -> bool {
+        self.level < self.rated() * self.volts()
+    }
+
+    /// Whether the lead charges after the tick at a level below its rating, and how many watts are
+    /// left over then by whole amperes.
+    fn left_over(&self) -> Option<u32> {
+        (self.after.phase == 6 && self.level_below_rated()).then(|| self.level % self.volts())
+    }
+
     fn h109(&self, at: usize) -> u8 {
         self.output[output_place::H109 + at]
     }
@@ -553,6 +611,24 @@ const TURNS: &[Fact<Turn>] = &[
     (HANDED_IN, "energy cleared from its largest value", |turn| turn.clears() && turn.room() == 0),
     (REACHED, "energy kept in 0, start button pressed", |turn| turn.stayed_in(0) && turn.keeps_energy()
         && turn.input[input_place::CONTACTS] & contact::START_BUTTON != 0),
+
+    (REACHED, "offered less than the rating by the move from 5", |turn| turn.moved_from(5) && turn.offer() < turn.rated()),
+    (REACHED, "the level in 6 is the rating's watts", |turn| turn.after.phase == 6 && turn.level == turn.rated() * turn.volts()),
+    (REACHED, "the level in 6 is a watt below the rating's watts", |turn| turn.after.phase == 6
+        && turn.level + 1 == turn.rated() * turn.volts()),
+    (REACHED, "the level in 6 is above the rating's watts", |turn| turn.after.phase == 6 && turn.level > turn.rated() * turn.volts()),
+    (REACHED, "the level in 6 carries more than a byte of amperes, its low byte less than the rating", |turn| turn.after.phase == 6
+        && turn.level / turn.volts() > 0xFF && turn.level / turn.volts() % 0x100 < turn.rated()),
+    (REACHED, "the level in 6 is whole amperes below the rating", |turn| turn.left_over() == Some(0) && turn.offer() > 0),
+    (REACHED, "the level in 6 is a watt above whole amperes", |turn| turn.left_over() == Some(1) && turn.offer() > 0),
+    (REACHED, "the level in 6 is a watt below whole amperes", |turn| turn.left_over() == Some(turn.volts() - 1) && turn.offer() > 0),
+    (REACHED, "the level in 6 is above 0 and below an ampere", |turn| turn.after.phase == 6 && turn.level > 0 && turn.level < turn.volts()),
+    (REACHED, "nothing asked for in 6, and nothing offered", |turn| turn.after.phase == 6 && turn.want == 0 && turn.offer() == 0),
+    (REACHED, "nothing asked for in 6, and less than the rating offered", |turn| turn.left_over().is_some() && turn.want == 0 && turn.offer() > 0),
+    (REACHED, "offered more than commanded in 6 and less than the rating", |turn| turn.left_over().is_some()
+        && turn.offer() > turn.after.command.into()),
+    (REACHED, "offered less than wanted in 6, and commanded just that", |turn| turn.left_over().is_some() && turn.is_short()
+        && turn.offer() > 0 && turn.offer() == turn.after.command.into()),
 
     (REACHED, "reason remains in 7", |turn| turn.stopped_in(7) && turn.before.reason != 0 && turn.after.reason == turn.before.reason),
     (REACHED, "reason remains in 8", |turn| turn.stopped_in(8) && turn.before.reason != 0 && turn.after.reason == turn.before.reason),

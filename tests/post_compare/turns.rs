@@ -75,7 +75,7 @@ pub fn turns(state: &[u8], input: &[u8]) -> Option<Vec<Turn>> {
         turn.level = level;
         turn.after.take(level, &rating);
         let input = Input::read(&turn.input, &rating)?;
-        turn.after.output(&input, &rating, &mut turn.output);
+        turn.after.output(&input, level, &rating, &mut turn.output);
     }
     Some(turns)
 }
@@ -85,10 +85,18 @@ pub fn wanted(turns: &[Turn]) -> u32 {
     turns.iter().map(|turn| turn.want).sum()
 }
 
-/// An allowance near one at which a command changes: all wants, as many times one of them as there
-/// are, or so much that the level is a whole number of amperes; then a watt or a lead's watt more
-/// or less.
+/// An allowance near one at which a command or an offer changes.
 pub fn edge(turns: &[Turn], dice: &mut Dice) -> u32 {
+    let charging: Vec<&Turn> = turns.iter().filter(|turn| turn.after.phase == 6).collect();
+    match charging.is_empty() || dice.below(4) > 0 {
+        true => edge_of_commands(turns, dice),
+        false => edge_of_an_offer(dice.pick(&charging), dice),
+    }
+}
+
+/// All wants, as many times one of them as there are, or so much that the level is a whole number
+/// of amperes; then a watt or a lead's watt more or less.
+fn edge_of_commands(turns: &[Turn], dice: &mut Dice) -> u32 {
     let wanting: Vec<&Turn> = turns.iter().filter(|turn| turn.want > 0).collect();
     let count = wanting.len() as u32;
     if count == 0 {
@@ -105,4 +113,14 @@ pub fn edge(turns: &[Turn], dice: &mut Dice) -> u32 {
     let more = dice.pick(&[0, 1, count - 1]);
     let less = dice.pick(&[0, 1, count]);
     (watts + more).saturating_sub(less)
+}
+
+/// Where all wants fit, the level is the allowance: a lead's rated amperes or fewer, or a watt more
+/// or less.
+fn edge_of_an_offer(turn: &Turn, dice: &mut Dice) -> u32 {
+    let rated = u32::from(turn.standing.rating.amperes);
+    let fewer = dice.below(rated);
+    let amperes = dice.pick(&[rated, fewer, 0]);
+    let watts = amperes * u32::from(turn.after.threshold);
+    (watts + dice.below(2)).saturating_sub(dice.below(2))
 }

@@ -168,15 +168,15 @@ pub fn hear(records: &[Record]) -> Heard {
     heard
 }
 
-/// H'108: what the post can give, and the threshold once it is kept.
-pub fn charger_limits(rated_volts: u16, rated_amperes: u8, threshold: u16) -> Data {
+/// H'108: the rated volts, the amperes offered, and the threshold once it is kept.
+pub fn charger_limits(rated_volts: u16, offered_amperes: u8, threshold: u16) -> Data {
     let volts = rated_volts.to_le_bytes();
     let threshold = threshold.to_le_bytes();
     [
         1,
         volts[0],
         volts[1],
-        rated_amperes,
+        offered_amperes,
         threshold[0],
         threshold[1],
         0,

@@ -3,7 +3,8 @@
 //! A tick of a lead has two halves, as the division of the allowance lies
 //! between them: `advance` hears, asks and moves; `take` commands what the
 //! level allows and counts its energy. `output` then shows the state after the
-//! tick, but for the energy, which is not shown.
+//! tick, but for the energy, which is not shown, and beside it the amperes that
+//! the level lets the lead offer, which are not remembered.
 
 use crate::frames::{self, CarStatus, ChargerFlags, ChargingTime, Record, Ticks};
 use crate::readings::{insulation_holds, Measured, Meter, Reading, Tenths};
@@ -621,12 +622,17 @@ impl Lead {
 
     /// "Each new command is that smaller number divided by the threshold,
     /// rounded down; outside 6 and 7 it is 0." There the want is 0, and so is
-    /// the quotient. The threshold of a lead in 6 or 7 is not 0.
+    /// the quotient.
     pub fn take(&mut self, level: u32, rating: &Rating) {
-        let watts = self.want(rating).min(level);
-        let amperes = watts.checked_div(u32::from(self.threshold)).unwrap_or(0);
-        self.command = amperes as u8;
+        self.command = self.whole_amperes(self.want(rating).min(level)) as u8;
         self.count_energy();
+    }
+
+    /// Watts "divided by the threshold, rounded down". Command and offer share it,
+    /// as 2026-05 wants that "no lead is ever commanded above its own byte 3". The
+    /// threshold of a lead in 6 or 7 is not 0; without one, watts carry no ampere.
+    fn whole_amperes(&self, watts: u32) -> u32 {
+        watts.checked_div(u32::from(self.threshold)).unwrap_or(0)
     }
 
     /// 2026-01: "Every tick adds command × threshold to a count of watt-ticks."
@@ -644,8 +650,14 @@ impl Lead {
 
 impl Lead {
     /// "All show the state after the tick"; the lock contact and the reading
-    /// are those of the tick's input.
-    pub fn output(&self, input: &Input, rating: &Rating, output: &mut [u8; OUTPUT_BYTES]) {
+    /// are those of the tick's input, the level is the tick's own.
+    pub fn output(
+        &self,
+        input: &Input,
+        level: u32,
+        rating: &Rating,
+        output: &mut [u8; OUTPUT_BYTES],
+    ) {
         output.fill(0);
         output[output_place::PHASE] = self.phase;
         output[output_place::REASON] = self.reason;
@@ -654,8 +666,8 @@ impl Lead {
         output[output_place::TEST_VOLTS..output_place::SPARE]
             .copy_from_slice(&self.test_volts().to_le_bytes());
         if self.sends_frames() {
-            let limits = frames::charger_limits(rating.volts, rating.amperes, self.threshold);
-            output[output_place::H108..output_place::H109].copy_from_slice(&limits);
+            output[output_place::H108..output_place::H109]
+                .copy_from_slice(&self.charger_limits(level, rating));
             output[output_place::H109..].copy_from_slice(&self.charger_status(input));
         }
     }
@@ -685,6 +697,22 @@ impl Lead {
         match self.phase {
             3 => self.threshold,
             _ => 0,
+        }
+    }
+
+    fn charger_limits(&self, level: u32, rating: &Rating) -> frames::Data {
+        let offered_amperes = self.offered_amperes(level, rating);
+        frames::charger_limits(rating.volts, offered_amperes, self.threshold)
+    }
+
+    /// 2026-05: "byte 3, in phase 6, is the smaller of rated amperes and level ÷
+    /// threshold rounded down, with this tick's level; elsewhere the rated
+    /// amperes." The phase is the one after the tick, as in all that is shown. The
+    /// level is the post's, whatever this lead wants or gets of it.
+    fn offered_amperes(&self, level: u32, rating: &Rating) -> u8 {
+        match self.phase {
+            6 => self.whole_amperes(level).min(rating.amperes.into()) as u8,
+            _ => rating.amperes,
         }
     }
 

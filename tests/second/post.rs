@@ -231,7 +231,7 @@ impl Call<'_> {
         for ((lead, input), (record, output)) in leads.iter_mut().zip(&self.inputs).zip(written) {
             lead.take(level, rating);
             lead.write(record);
-            lead.output(input, rating, output);
+            lead.output(input, level, rating, output);
         }
     }
 }

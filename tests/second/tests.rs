@@ -4,6 +4,7 @@
 
 mod bench;
 mod energy;
+mod offered;
 mod output;
 mod phases;
 mod questions;
@@ -28,6 +29,9 @@ use crate::post::{
 const AMPLE: u32 = u32::MAX;
 
 const CLOSED: u8 = PLUG | CHARGE_PERMISSION | CONNECTOR_LOCK;
+
+/// Byte 3 of H'108 in a lead's output.
+const OFFERED: usize = output_place::H108 + 3;
 
 /// A state that setup wrote over other bytes, without cable resistance.
 fn fresh(leads: usize, volts: u32, amperes: u32) -> Vec<u8> {
@@ -122,6 +126,7 @@ struct After {
 impl After {
     fn phase_and_reason(&self) -> (u8, u8) { (self.output[output_place::PHASE], self.output[output_place::REASON]) }
     fn command(&self) -> u8 { self.output[output_place::COMMAND] }
+    fn offered(&self) -> u8 { self.output[OFFERED] }
     fn number(&self, at: usize) -> u16 { u16::from_le_bytes([self.state[at], self.state[at + 1]]) }
     fn age(&self) -> u32 { u32::from_le_bytes(self.state[AGE..ENERGY].try_into().unwrap()) }
     fn energy(&self) -> u64 { u64::from_le_bytes(self.state[ENERGY..SPARE].try_into().unwrap()) }

@@ -7,7 +7,8 @@ use Rattle.frames.specs.declared.sent.Offer.{Offer}
 use Rattle.frames.specs.declared.sent.Report.{Report}
 use Rattle.frames.specs.declared.sent.ChargerFlags.{ChargerFlags}
 
--- "H'108 (sent): byte 0 is 1; 1–2 rated volts; 3 rated amperes; 4–5 the kept threshold, 0 before it is kept; rest 0."
+-- "H'108 (sent): byte 0 is 1; 1–2 rated volts; 3 …; 4–5 the kept threshold, 0 before it is kept; rest 0." Byte 3 is what the lead offers (2026-05),
+-- which the layer above works out.
 unfoldable pub offerBytes : Offer → List ℕ
 offerBytes f =
     1 ∷ lowByte (f .volts) ∷ highByte (f .volts) ∷ f .amperes ∷ lowByte (f .threshold) ∷ highByte (f .threshold) ∷ 0 ∷ 0 ∷ []

@@ -1,18 +1,19 @@
 -- What a command leaves alone, and how large it is. Assumes nothing.
 use mathlib.Core.Bool.{Bool, true, false, cond}
-use mathlib.Core.Path.{_≡_, refl}
+use mathlib.Core.Path.{_≡_, refl, _∙_}
 use Prim.Native.Nat.{ℕ, _+_, _-_, _*_, _/_, _≤_, min}
+use native.Mathlib.Decide.{ℕ-discrete}
 use native.Mathlib.Nat.{div-mul-le-self}
 use native.Mathlib.Omega.{arith}
 use lib.Dec.{T, eqb}
 use borrow.Author.Tests.{ne-eqb}
 use Rattle.common.specs.Tests.{between}
 use Rattle.lead.specs.Figures.{mostEnergy}
-use Rattle.lead.specs.Power.{wanted, wantedWatts, energyAfter, commanded}
+use Rattle.lead.specs.Power.{wanted, wantedWatts, offered, energyAfter, commanded}
 use Rattle.lead.specs.declared.state.Lead.{Lead}
 use Rattle.lead.specs.declared.state.Ratings.{Ratings}
 use Rattle.common.proofs.Bools.{between-of}
-use Rattle.lead.proofs.Watts.{carried-most}
+use Rattle.lead.proofs.Watts.{carried-most, carried-is}
 
 module _ (c : Ratings) (level : ℕ) (s : Lead) where
   pub command-stage : commanded c level s .stage ≡ s .stage
@@ -81,3 +82,34 @@ module _ (c : Ratings) (s : Lead) where
 -- outside 6 and 7 the command is 0
 pub command-0 : (c : Ratings) (level : ℕ) (s : Lead) → (T (between 6 7 (s .stage .phase)) → ⊥) → commanded c level s .command ≡ 0
 command-0 c level s n = let h : commanded c level s .command ≤ wanted c s = command-most c level s in omega (arith, want-0 c s n)
+
+-- 2026-05: what is offered beside a command
+module _ (c : Ratings) (level : ℕ) (s : Lead) where
+  -- a command changes nothing that an offer looks at
+  pub offered-commanded : offered c level (commanded c level s) ≡ offered c level s
+  unfolding offered commanded
+  offered-commanded = refl
+
+  -- while charging, as much of the rating as the level carries
+  offered-6 : s .stage .phase ≡ 6 → offered c level s ≡ min (c .amperes) (level / s .threshold)
+  unfolding offered
+  offered-6 e = rw e
+
+  -- elsewhere the rating
+  offered-rated : (s .stage .phase ≡ 6 → ⊥) → offered c level s ≡ c .amperes
+  unfolding offered
+  offered-rated n = rw (ne-eqb (s .stage .phase) 6 n)
+
+  -- in 6 the command is the smaller of what is wanted and what is offered
+  pub command-6 : s .stage .phase ≡ 6 → commanded c level s .command ≡ min (wanted c s) (offered c level s)
+  command-6 e =
+      command-is c level s
+      ∙ rw (watts-are c s, offered-6 e) (carried-is (wanted c s) (s .threshold) level ∙ omega (arith, want-6 c s e))
+
+  -- a command that is within the rating is within the offer beside it
+  pub command-offered : commanded c level s .command ≤ c .amperes → commanded c level s .command ≤ offered c level s
+  command-offered rated = go (ℕ-discrete (s .stage .phase) 6)
+    where
+      go : Dec (s .stage .phase ≡ 6) → commanded c level s .command ≤ offered c level s
+      go (yes six) = omega (arith, command-6 six)
+      go (no not-6) = omega (arith, offered-rated not-6)

@@ -5,9 +5,9 @@ use Rattle.frames.specs.All.{framesRules}
 use Rattle.lead.specs.Hearing.{hearBattery, hearTime, hearStatus, silenceAfter, hearCar, hear}
 use Rattle.lead.specs.Questions.{viewOf, questions, ask, gotNo}
 use Rattle.lead.specs.Moves.{moves, mayMove, nextPhase, reasonAfter, ageAfter, goOn, advance, decide}
-use Rattle.lead.specs.Power.{wanted, wantedWatts, energyAfter, commanded}
+use Rattle.lead.specs.Power.{wanted, wantedWatts, offered, energyAfter, commanded}
 use Rattle.lead.specs.Good.{goodThreshold, goodLead}
 
 unfoldable pub leadRules : Bool
-unfolding readingsRules framesRules hearBattery hearTime hearStatus silenceAfter hearCar hear viewOf questions ask gotNo moves mayMove nextPhase reasonAfter ageAfter goOn advance decide wanted wantedWatts energyAfter commanded goodThreshold goodLead
+unfolding readingsRules framesRules hearBattery hearTime hearStatus silenceAfter hearCar hear viewOf questions ask gotNo moves mayMove nextPhase reasonAfter ageAfter goOn advance decide wanted wantedWatts offered energyAfter commanded goodThreshold goodLead
 leadRules = true

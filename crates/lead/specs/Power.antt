@@ -1,5 +1,5 @@
--- Document 01, 'Dividing the allowance': what a lead wants, its command at a level that is handed in, and the energy counted by request
--- 2026-01. Definitions only.
+-- Document 01, 'Dividing the allowance': what a lead wants, its command at a level that is handed in, the energy counted by request 2026-01
+-- and what request 2026-05 offers the car. Definitions only.
 use mathlib.Core.Bool.{cond}
 use Prim.Native.Nat.{ℕ, _+_, _-_, _*_, _/_, min}
 use lib.Dec.{eqb}
@@ -23,6 +23,11 @@ wantedWatts c s = wanted c s * s .threshold
 -- there the want is 0. A lead without a threshold gets 0, as x / 0 is 0.
 abbrev pub newCommand : Ratings → ℕ → Lead → ℕ
 newCommand c level s = min (wantedWatts c s) level / s .threshold
+
+-- 2026-05: what is offered to the car, in amperes: "in phase 6", after the tick, "the smaller of rated amperes and level ÷ threshold rounded
+-- down, with this tick's level; elsewhere the rated amperes." A lead in 6 without a threshold offers 0, as x / 0 is 0.
+unfoldable pub offered : Ratings → ℕ → Lead → ℕ
+offered c level s = cond (eqb (s .stage .phase) charging) (min (c .amperes) (level / s .threshold)) (c .amperes)
 
 -- 2026-01: the "count of watt-ticks" once the watts of a tick are added. "It stops at its largest value."
 unfoldable pub energyAfter : ℕ → ℕ → ℕ

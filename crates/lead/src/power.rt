@@ -1,4 +1,4 @@
-// What a lead wants of the post's power, the command that a level gives it, and the energy that this adds.
+// What a lead wants of the post's power, the command that a level gives it, the energy that this adds, and what is offered to the car.
 use super::figures::Figure;
 use super::names::Phase;
 use super::numbers::lesser;
@@ -7,7 +7,7 @@ use super::state::Ratings;
 ghost use mathlib.Core.Path.{_≡_};
 ghost use Prim.Native.Nat.{_-_, _*_, _/_, min};
 ghost use Rattle.lead.specs.Figures.{fall};
-ghost use Rattle.lead.specs.Power.{wanted, wantedWatts, energyAfter, commanded};
+ghost use Rattle.lead.specs.Power.{wanted, wantedWatts, offered, energyAfter, commanded};
 
 // At least 0.
 fn lowered(command: u8) -> u8
@@ -26,16 +26,16 @@ fn watts(amperes: u8, volts: u16) -> u32
     (amperes as u32) * (volts as u32)
 }
 
-// Whole amperes that the smaller of want and level carries.
-fn carried(wanted: u8, volts: u16, level: u32) -> u8
-    ensures { λ r. ⌜ r ≡ min (wanted * volts) level / volts ⌝ }
+// As many of these amperes as the level carries, in whole ones.
+fn carried(amperes: u8, volts: u16, level: u32) -> u8
+    ensures { λ r. ⌜ r ≡ min (amperes * volts) level / volts ⌝ }
 {
     if volts == 0 {
         return 0;
     }
-    let want = watts(wanted, volts);
-    if want <= level {
-        return wanted;
+    let all = watts(amperes, volts);
+    if all <= level {
+        return amperes;
     }
     (level / (volts as u32)) as u8
 }
@@ -83,5 +83,15 @@ impl Lead {
         self.energy = energy_after(self.energy, watts(command, self.threshold));
         self.command = command;
         self
+    }
+
+    // In amperes, by the phase after the tick: while charging, as much of the rating as the level carries.
+    pub fn offered(self, ratings: Ratings, level: u32) -> u8
+        ensures { λ r. ⌜ r ≡ offered ratings level self ⌝ }
+    {
+        if self.stage.phase != Phase::CHARGING {
+            return ratings.amperes;
+        }
+        carried(ratings.amperes, self.threshold, level)
     }
 }

@@ -16,7 +16,7 @@ use Rattle.lead_records.specs.Claims.{Carries, WholeCarried}
 
 pub whole-carried : WholeCarried
 unfolding outputOf shownBytes offerBytes reportBytes reportOf
-whole-carried c lock s volts amperes v a n k sent allowed good volts-least amperes-least =
+whole-carried c level lock s volts amperes v a n k sent allowed good volts-least amperes-least =
     let shown = least-whole volts amperes (c .resistance) v a allowed good in
     let e : between 1 9 (s .stage .phase) ≡ true = is-true (between 1 9 (s .stage .phase)) sent in
     record {
@@ -25,6 +25,6 @@ whole-carried c lock s volts amperes v a n k sent allowed good volts-least amper
     }
 
 -- 400.25 V and 255.5 A at a lead that charges
-pub worked-report : Carries (outputOf (record { volts = 500; amperes = 200; resistance = 0 }) true (judgedOf (readingOf true 0x43c8_2000) (readingOf true 0x437f_8000) 0) (blank 6)) 401 256
+pub worked-report : Carries (outputOf (record { volts = 500; amperes = 200; resistance = 0 }) 0 true (judgedOf (readingOf true 0x43c8_2000) (readingOf true 0x437f_8000) 0) (blank 6)) 401 256
 unfolding outputOf shownBytes offerBytes reportBytes reportOf inRange connectorVolts inTenths least ofBits ofInt le lt eq mul sub
 worked-report = record { volts-carried = refl; amperes-carried = refl }

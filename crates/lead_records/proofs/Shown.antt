@@ -10,6 +10,7 @@ use Rattle.little_endian.proofs.Bytes.{u16-back}
 use Rattle.frames.specs.Heard.{newestStatus}
 use Rattle.frames.specs.Sent.{offerBytes, reportBytes}
 use Rattle.common.specs.Tests.{between}
+use Rattle.lead.specs.Power.{offered}
 use Rattle.lead.specs.declared.state.Lead.{Lead}
 use Rattle.lead.specs.declared.state.Ratings.{Ratings}
 use Rattle.lead_records.specs.Inputs.{contactsOf, frameRecords, inputOf}
@@ -22,8 +23,8 @@ sent-length p frame e = go (between 1 9 p)
     go true = e
     go false = refl
 
-module _ (c : Ratings) (lock : Bool) (reading : Judged) (s : Lead) where
-  offer-length : length (offerBytes (offerOf c s)) ≡ 8
+module _ (c : Ratings) (level : ℕ) (lock : Bool) (reading : Judged) (s : Lead) where
+  offer-length : length (offerBytes (offerOf c level s)) ≡ 8
   unfolding offerBytes
   offer-length = refl
 
@@ -31,33 +32,45 @@ module _ (c : Ratings) (lock : Bool) (reading : Judged) (s : Lead) where
   unfolding reportBytes
   report-length = refl
 
-  pub output-length : length (outputOf c lock reading s) ≡ outputSize
+  pub output-length : length (outputOf c level lock reading s) ≡ outputSize
   unfolding outputOf shownBytes
   output-length =
-      let offer = whileSending (s .stage .phase) (offerBytes (offerOf c s)) in
+      let offer = whileSending (s .stage .phase) (offerBytes (offerOf c level s)) in
       let report = whileSending (s .stage .phase) (reportBytes (reportOf lock reading s)) in
       rw (
         length-append (shownBytes s ++ offer) report,
         length-append (shownBytes s) offer,
-        sent-length (s .stage .phase) (offerBytes (offerOf c s)) offer-length,
+        sent-length (s .stage .phase) (offerBytes (offerOf c level s)) offer-length,
         sent-length (s .stage .phase) (reportBytes (reportOf lock reading s)) report-length,
       )
 
   -- byte 2 of the output is the command
-  pub output-command : byteAt (outputOf c lock reading s) 2 ≡ s .command
+  pub output-command : byteAt (outputOf c level lock reading s) 2 ≡ s .command
   unfolding outputOf shownBytes
   output-command = refl
 
   -- bytes 4 and 5 of H'108, which stands from byte 8 on, are the threshold while it is sent
-  pub output-threshold : u16At (outputOf c lock reading s) 12 ≡ cond (between 1 9 (s .stage .phase)) (s .threshold) 0
+  pub output-threshold : u16At (outputOf c level lock reading s) 12 ≡ cond (between 1 9 (s .stage .phase)) (s .threshold) 0
   unfolding outputOf shownBytes offerBytes
   output-threshold = go (between 1 9 (s .stage .phase)) refl
     where
       go :
           (b : Bool)
           → between 1 9 (s .stage .phase) ≡ b
-          → u16At (outputOf c lock reading s) 12 ≡ cond b (s .threshold) 0
+          → u16At (outputOf c level lock reading s) 12 ≡ cond b (s .threshold) 0
       go true e = rw e (u16-back (s .threshold))
+      go false e = rw e
+
+  -- byte 3 of H'108 is what is offered while it is sent
+  pub output-offer : byteAt (outputOf c level lock reading s) 11 ≡ cond (between 1 9 (s .stage .phase)) (offered c level s) 0
+  unfolding outputOf shownBytes offerBytes
+  output-offer = go (between 1 9 (s .stage .phase)) refl
+    where
+      go :
+          (b : Bool)
+          → between 1 9 (s .stage .phase) ≡ b
+          → byteAt (outputOf c level lock reading s) 11 ≡ cond b (offered c level s) 0
+      go true e = rw e
       go false e = rw e
 
 module _ (b : List ℕ) (resistance : ℕ) where

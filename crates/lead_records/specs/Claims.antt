@@ -25,10 +25,10 @@ pub record Carries (output : List ℕ) (volts amperes : ℕ) : Type 0 where
 -- phases 1 to 9.
 abbrev pub WholeCarried : Type 0
 WholeCarried =
-    (c : Ratings) (lock : Bool) (s : Lead) (volts amperes : Float) (v a : Tenths) (n k : ℕ)
+    (c : Ratings) (level : ℕ) (lock : Bool) (s : Lead) (volts amperes : Float) (v a : Tenths) (n k : ℕ)
     → T (between 1 9 (s .stage .phase))
     → allowedResistance (c .resistance) ≡ true
     → judgedOf (Value volts) (Value amperes) (c .resistance) ≡ Good v a
     → IsLeast 1 (connectorOf volts amperes (c .resistance)) n
     → IsLeast 1 amperes k
-    → Carries (outputOf c lock (Good v a) s) n k
+    → Carries (outputOf c level lock (Good v a) s) n k

@@ -16,6 +16,7 @@ use Rattle.frames.specs.declared.sent.Offer.{Offer}
 use Rattle.frames.specs.declared.sent.Report.{Report}
 use Rattle.common.specs.Tests.{between}
 use Rattle.lead.specs.Names.{insulationTest, charging, groundFault, badReading, unlocked, carSilent, incompatibleVoltage, lowInsulation, phaseTimeout}
+use Rattle.lead.specs.Power.{offered}
 use Rattle.lead.specs.declared.state.Lead.{Lead}
 use Rattle.lead.specs.declared.state.Ratings.{Ratings}
 use Rattle.lead_records.specs.declared.outputs.ShownReading.{ShownReading}
@@ -39,9 +40,9 @@ switches p = byteOf (between 1 8 p ∷ between 5 8 p ∷ between 2 9 p ∷ betwe
 unfoldable pub testVolts : Lead → ℕ
 testVolts s = cond (eqb (s .stage .phase) insulationTest) (s .threshold) 0
 
--- what H'108 offers
-abbrev pub offerOf : Ratings → Lead → Offer
-offerOf c s = record { volts = c .volts; amperes = c .amperes; threshold = s .threshold }
+-- what H'108 offers, at the tick's level
+abbrev pub offerOf : Ratings → ℕ → Lead → Offer
+offerOf c level s = record { volts = c .volts; amperes = offered c level s; threshold = s .threshold }
 
 -- "Flags: 0 set in phases 6, 7; 1 for reasons 13, 15–18, 27; 2 lock contact closed; 3 for reason 21; 4 for reasons 19, 28; 5 set unless phase 6."
 unfoldable pub flagsOf : Bool → ℕ → ℕ → ChargerFlags
@@ -86,9 +87,9 @@ unfoldable pub shownBytes : Lead → List ℕ
 shownBytes s =
     s .stage .phase ∷ s .stage .reason ∷ s .command ∷ switches (s .stage .phase) ∷ lowByte (testVolts s) ∷ highByte (testVolts s) ∷ 0 ∷ 0 ∷ []
 
--- "H'108; H'109"
-unfoldable pub outputOf : Ratings → Bool → Judged → Lead → List ℕ
-outputOf c lock reading s =
+-- "H'108; H'109". Of the tick itself they show what its level carries, its lock contact and its reading.
+unfoldable pub outputOf : Ratings → ℕ → Bool → Judged → Lead → List ℕ
+outputOf c level lock reading s =
     shownBytes s
-    ++ whileSending (s .stage .phase) (offerBytes (offerOf c s))
+    ++ whileSending (s .stage .phase) (offerBytes (offerOf c level s))
     ++ whileSending (s .stage .phase) (reportBytes (reportOf lock reading s))

@@ -141,13 +141,13 @@ impl OutputRecord {
         }
     }
 
-    // H'108.
-    fn offer(ratings: Ratings, lead: Lead) -> [u8; 8]
-        ensures { λ r. ⌜ r ≡ offerBytes (offerOf ratings lead) ⌝ }
+    // H'108, at the tick's level.
+    fn offer(ratings: Ratings, level: u32, lead: Lead) -> [u8; 8]
+        ensures { λ r. ⌜ r ≡ offerBytes (offerOf ratings level lead) ⌝ }
     {
         let offer = Offer {
             volts: ratings.volts,
-            amperes: ratings.amperes,
+            amperes: lead.offered(ratings, level),
             threshold: lead.threshold,
         };
         offer.bytes()
@@ -168,15 +168,22 @@ impl OutputRecord {
     }
 
     // H'108 and H'109, zeros where none is sent.
-    fn write_frames(ratings: Ratings, lock: bool, reading: Judged, lead: Lead, frames: &mut [u8])
+    fn write_frames(
+        ratings: Ratings,
+        level: u32,
+        lock: bool,
+        reading: Judged,
+        lead: Lead,
+        frames: &mut [u8],
+    )
         requires { ⌜ length (now frames) ≡ framesSize ⌝ }
-        ensures { λ _. ⌜ now (frames .exit) ≡ whileSending (lead .stage .phase) (offerBytes (offerOf ratings lead))
+        ensures { λ _. ⌜ now (frames .exit) ≡ whileSending (lead .stage .phase) (offerBytes (offerOf ratings level lead))
             ++ whileSending (lead .stage .phase) (reportBytes (reportOf lock reading lead)) ⌝ }
     {
         let phase = lead.stage.phase;
         let sending = (Phase::HANDSHAKE <= phase) & (phase <= Phase::FINAL_DISCHARGE);
         if sending {
-            let offer = OutputRecord::offer(ratings, lead);
+            let offer = OutputRecord::offer(ratings, level, lead);
             let report = OutputRecord::report(lock, reading, lead);
             copy(&offer, frames);
             copy(
@@ -188,10 +195,17 @@ impl OutputRecord {
         copy(&[0u8; OutputRecord::SIZE - OutputRecord::OFFER], frames);
     }
 
-    // Of the lead after the tick, with the tick's lock contact and reading.
-    pub fn write(ratings: Ratings, lock: bool, reading: Judged, lead: Lead, output: &mut [u8])
+    // Of the lead after the tick, with the tick's level, lock contact and reading.
+    pub fn write(
+        ratings: Ratings,
+        level: u32,
+        lock: bool,
+        reading: Judged,
+        lead: Lead,
+        output: &mut [u8],
+    )
         requires { ⌜ length (now output) ≡ outputSize ⌝ }
-        ensures { λ _. ⌜ now (output .exit) ≡ outputOf ratings lock reading lead ⌝ }
+        ensures { λ _. ⌜ now (output .exit) ≡ outputOf ratings level lock reading lead ⌝ }
     {
         let phase = lead.stage.phase;
         let test = OutputRecord::test_volts(lead);
@@ -205,6 +219,7 @@ impl OutputRecord {
         copy(&shown, output);
         OutputRecord::write_frames(
             ratings,
+            level,
             lock,
             reading,
             lead,

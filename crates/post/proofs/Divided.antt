@@ -45,9 +45,10 @@ module _ (h : Head) (i : TickInput) (leads : ℕ → Lead) (few : h .leads ≤ p
       ap (λ (n : ℕ). commandedTurn (h .ratings) n (getD turns k emptyTurn)) level-is
       ∙ ap (commandedTurn (h .ratings) (levelAfter h i leads)) (turn-in k below)
 
-  next-shows : (k : ℕ) → k < h .leads → turnShown (h .ratings) (next k) ≡ shownAt h i (leadAfter h i leads k) k
+  next-shows : (k : ℕ) → k < h .leads → turnShown (h .ratings) level (next k) ≡ shownAt h i leads k
   unfolding commandedTurn decidedTurn decidedAt leadAfter
-  next-shows k below = ap (turnShown (h .ratings)) (next-is k below)
+  next-shows k below =
+      ap (λ (n : ℕ). turnShown (h .ratings) n (next k)) level-is ∙ ap (turnShown (h .ratings) (levelAfter h i leads)) (next-is k below)
 
   states-are : joined (h .leads) (λ k. encode (next k .lead)) ≡ joined (h .leads) (λ k. encode (leadAfter h i leads k))
   unfolding commandedTurn decidedTurn decidedAt leadAfter
@@ -55,10 +56,10 @@ module _ (h : Head) (i : TickInput) (leads : ℕ → Lead) (few : h .leads ≤ p
       joined-same (h .leads) (λ k. encode (next k .lead)) (λ k. encode (leadAfter h i leads k))
       (λ k below. ap (λ (t : Turn). encode (t .lead)) (next-is k below))
 
-  outputs-are : joined (h .leads) (λ k. turnShown (h .ratings) (next k)) ≡ shownAfter h i leads
+  outputs-are : joined (h .leads) (λ k. turnShown (h .ratings) level (next k)) ≡ shownAfter h i leads
   unfolding shownAfter
   outputs-are =
-      joined-same (h .leads) (λ k. turnShown (h .ratings) (next k)) (λ k. shownAt h i (leadAfter h i leads k) k) next-shows
+      joined-same (h .leads) (λ k. turnShown (h .ratings) level (next k)) (λ k. shownAt h i leads k) next-shows
 
 -- the same for the state's own head and leads
 module _ (state : List ℕ) (i : TickInput) {h : Head} (own : h ≡ headOf state) (few : h .leads ≤ places) (turns : List Turn) (wants : List ℕ) (level : ℕ)
@@ -75,7 +76,8 @@ module _ (state : List ℕ) (i : TickInput) {h : Head} (own : h ≡ headOf state
       ∙ ap (λ (g : Head). joined (g .leads) (λ k. encode (leadAfter g i (leadsOf state) k))) own)
 
   pub shown-after :
-      joined (h .leads) (λ k. turnShown (h .ratings) (commandedTurn (h .ratings) level (getD turns k emptyTurn))) ≡ shownAfter (headOf state) i (leadsOf state)
+      joined (h .leads) (λ k. turnShown (h .ratings) level (commandedTurn (h .ratings) level (getD turns k emptyTurn)))
+      ≡ shownAfter (headOf state) i (leadsOf state)
   unfolding next
   shown-after =
       outputs-are h i (leadsOf state) few turns wants level decided wanted levelled

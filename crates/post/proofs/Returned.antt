@@ -11,7 +11,7 @@ use Rattle.lead.specs.Leads.{fresh}
 use Rattle.lead_records.specs.Outputs.{outputSize}
 use Rattle.lead_records.proofs.Shown.{output-length}
 use Rattle.post.specs.Heads.{headOf}
-use Rattle.post.specs.Rules.{TickInput, tickInput, leadAfter, shownAt, shownAfter, postBytes}
+use Rattle.post.specs.Rules.{TickInput, tickInput, shownAt, shownAfter, postBytes}
 use Rattle.post.specs.Refusals.{headRows, setupRows, inputRows, tickRows}
 use Rattle.post.specs.Calls.{SetUp, setupOf, leadsOf, stateAfter, Ticked, tickOf}
 use Rattle.post.specs.declared.head.Head.{Head}
@@ -67,5 +67,5 @@ shown-length state input output =
     let i : TickInput = tickInput input in
     either-way _ _ (λ (x : Ticked). length (x .output) ≡ length output) (refusalOf (tickRows state input (length output))) (λ n. refl)
     (λ e.
-    joined-length outputSize (λ k. shownAt h i (leadAfter h i (leadsOf state) k) k) (λ k. output-length (h .ratings) _ _ _) (h .leads)
+    joined-length outputSize (λ k. shownAt h i (leadsOf state) k) (λ k. output-length (h .ratings) _ _ _ _) (h .leads)
     ∙ sym (tick-taken {input = input} refl e .output-length))

@@ -12,13 +12,13 @@ use Rattle.common.proofs.Joined.{joined-same, part-joined}
 use Rattle.common.specs.Tests.{between}
 use Rattle.little_endian.specs.Numbers.{byteAt, u16At}
 use Rattle.sharing.proofs.Laws.{level-same}
-use Rattle.lead.specs.Power.{wantedWatts, commanded}
+use Rattle.lead.specs.Power.{wantedWatts, offered, commanded}
 use Rattle.lead.specs.Moves.{decide}
 use Rattle.lead.specs.declared.state.Lead.{Lead}
 use Rattle.lead.proofs.Goodness.{good-stays}
 use Rattle.lead_records.specs.States.{encode}
 use Rattle.lead_records.specs.Outputs.{outputSize}
-use Rattle.lead_records.proofs.Shown.{output-length, output-command, output-threshold}
+use Rattle.lead_records.proofs.Shown.{output-length, output-command, output-threshold, output-offer}
 use Rattle.post.specs.Heads.{headSize, headOf, headBytes, outputPart}
 use Rattle.post.specs.Rules.{TickInput, tickInput, inputAt, decidedAt, wantAfter, levelAfter, leadAfter, shownAt, shownAfter, postBytes}
 use Rattle.post.specs.Refusals.{goodPost, inputRows, tickRows}
@@ -49,8 +49,7 @@ module _ (h : Head) (i : TickInput) (v w : ℕ → Lead) (same : (k : ℕ) → k
   shown-same : shownAfter h i v ≡ shownAfter h i w
   unfolding shownAfter
   shown-same =
-      joined-same (h .leads) (λ k. shownAt h i (leadAfter h i v k) k) (λ k. shownAt h i (leadAfter h i w k) k)
-      (λ k below. ap (λ (l : Lead). shownAt h i l k) (after-same k below))
+      joined-same (h .leads) (λ k. shownAt h i v k) (λ k. shownAt h i w k) (λ k below. rw (level-agrees, after-same k below))
 
 -- a sound post stays sound
 pub sound-stays : (h : Head) (i : TickInput) (leads : ℕ → Lead) → Sound h leads → Sound h (leadAfter h i leads)
@@ -104,20 +103,26 @@ module _ (h : Head) (input : List ℕ) (leads : ℕ → Lead) where
 
 -- what a tick's output says of lead k
 module _ (h : Head) (i : TickInput) (leads : ℕ → Lead) (k : ℕ) (below : k < h .leads) where
-  shown-part : outputPart (shownAfter h i leads) k ≡ shownAt h i (leadAfter h i leads k) k
+  shown-part : outputPart (shownAfter h i leads) k ≡ shownAt h i leads k
   unfolding shownAfter
   shown-part =
-      part-joined outputSize (λ j. shownAt h i (leadAfter h i leads j) j) (λ j. output-length (h .ratings) _ _ _) [] 0 (h .leads) k refl below
+      part-joined outputSize (λ j. shownAt h i leads j) (λ j. output-length (h .ratings) _ _ _ _) [] 0 (h .leads) k refl below
 
   -- byte 2 is its command
   pub shown-command : byteAt (outputPart (shownAfter h i leads) k) 2 ≡ leadAfter h i leads k .command
-  shown-command = ap (λ (b : List ℕ). byteAt b 2) shown-part ∙ output-command (h .ratings) _ _ _
+  shown-command = ap (λ (b : List ℕ). byteAt b 2) shown-part ∙ output-command (h .ratings) _ _ _ _
 
   -- bytes 12 and 13 are its threshold while frames are sent
   pub shown-threshold :
       u16At (outputPart (shownAfter h i leads) k) 12
       ≡ cond (between 1 9 (leadAfter h i leads k .stage .phase)) (leadAfter h i leads k .threshold) 0
-  shown-threshold = ap (λ (b : List ℕ). u16At b 12) shown-part ∙ output-threshold (h .ratings) _ _ _
+  shown-threshold = ap (λ (b : List ℕ). u16At b 12) shown-part ∙ output-threshold (h .ratings) _ _ _ _
+
+  -- 2026-05: byte 11, which is byte 3 of H'108, is what it is offered, while frames are sent
+  pub shown-offer :
+      byteAt (outputPart (shownAfter h i leads) k) 11
+      ≡ cond (between 1 9 (leadAfter h i leads k .stage .phase)) (offered (h .ratings) (levelAfter h i leads) (leadAfter h i leads k)) 0
+  shown-offer = ap (λ (b : List ℕ). byteAt b 11) shown-part ∙ output-offer (h .ratings) _ _ _ _
 
 -- bytes that are no good state
 pub tick-unusable :

@@ -43,13 +43,14 @@ levelAfter h i leads = levelOf (h .leads) (wantAfter h i leads) (i .limit)
 unfoldable pub leadAfter : Head → TickInput → (ℕ → Lead) → ℕ → Lead
 leadAfter h i leads k = commanded (h .ratings) (levelAfter h i leads) (decidedAt h i leads k)
 
--- what lead k shows, where `lead` is as the tick leaves it
-abbrev pub shownAt : Head → TickInput → Lead → ℕ → List ℕ
-shownAt h i lead k = outputOf (h .ratings) (inputAt h i k .contacts .lock) (inputAt h i k .reading) lead
+-- what lead k shows: as the tick leaves it, and, 2026-05, "with this tick's level"
+abbrev pub shownAt : Head → TickInput → (ℕ → Lead) → ℕ → List ℕ
+shownAt h i leads k =
+    outputOf (h .ratings) (levelAfter h i leads) (inputAt h i k .contacts .lock) (inputAt h i k .reading) (leadAfter h i leads k)
 
 -- what the tick shows: every lead as it leaves it
 unfoldable pub shownAfter : Head → TickInput → (ℕ → Lead) → List ℕ
-shownAfter h i leads = joined (h .leads) (λ k. shownAt h i (leadAfter h i leads k) k)
+shownAfter h i leads = joined (h .leads) (λ k. shownAt h i leads k)
 
 -- the post's bytes
 unfoldable pub postBytes : Head → (ℕ → Lead) → List ℕ

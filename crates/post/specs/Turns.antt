@@ -34,6 +34,6 @@ among n turns k = cond (ltb k n) (turns k) emptyTurn
 unfoldable pub commandedTurn : Ratings → ℕ → Turn → Turn
 commandedTurn c level turn = record { lead = commanded c level (turn .lead); lock = turn .lock; reading = turn .reading }
 
--- what a turn's lead shows
-abbrev pub turnShown : Ratings → Turn → List ℕ
-turnShown c turn = outputOf c (turn .lock) (turn .reading) (turn .lead)
+-- what a turn's lead shows at a level
+abbrev pub turnShown : Ratings → ℕ → Turn → List ℕ
+turnShown c level turn = outputOf c level (turn .lock) (turn .reading) (turn .lead)

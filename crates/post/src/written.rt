@@ -15,7 +15,8 @@ ghost use Rattle.lead_records.specs.States.{encode};
 ghost use Rattle.post.specs.Heads.{headSize, stateLength, outputLength};
 ghost use Rattle.post.specs.Turns.{emptyTurn, commandedTurn, turnShown};
 
-// The turns' leads with their commands at the level: each one's records of state and output. The state's head stays as it is.
+// The turns' leads with their commands at the level: each one's records of state and output. The output shows
+// what the level lets the lead offer, too. The state's head stays as it is.
 pub(crate) fn write_leads(
     head: Head,
     level: u32,
@@ -27,7 +28,7 @@ pub(crate) fn write_leads(
     ensures { λ _. ⌜ now (state .exit) ≡ take headSize (now (state .entry))
         ++ joined (head .leads) (λ k. encode (commandedTurn (head .ratings) level (getD turns k emptyTurn) .lead)) ⌝ }
     ensures { λ _. ⌜ now (output .exit)
-        ≡ joined (head .leads) (λ k. turnShown (head .ratings) (commandedTurn (head .ratings) level (getD turns k emptyTurn))) ⌝ }
+        ≡ joined (head .leads) (λ k. turnShown (head .ratings) level (commandedTurn (head .ratings) level (getD turns k emptyTurn))) ⌝ }
 {
     let leads = head.leads as usize;
     let mut i = 0;
@@ -40,6 +41,7 @@ pub(crate) fn write_leads(
         copy(&kept, &mut state[at..at + StateRecord::SIZE]);
         OutputRecord::write(
             head.ratings,
+            level,
             turn.lock,
             reading,
             turn.lead,

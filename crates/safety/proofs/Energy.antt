@@ -2,7 +2,7 @@
 use mathlib.Core.Bool.{Bool, true, false, cond, _||_}
 use mathlib.Core.List.{List}
 use mathlib.Core.Logic.{_⊎_, inl, inr}
-use mathlib.Core.Path.{_≡_, refl, sym, subst, ap, _∙_}
+use mathlib.Core.Path.{_≡_, refl, sym, ap, _∙_}
 use Prim.Native.Nat.{ℕ, zero, suc, _+_, _-_, _*_, _≤_, _<_, min}
 use native.Mathlib.Decide.{ℕ-discrete, le-ind}
 use native.Mathlib.Nat.{zero-add, mul-le-mul}
@@ -13,25 +13,25 @@ use lib.ListN.{length, getD}
 use borrow.Author.Tests.{eq-eqb}
 use mir.Facts.{or-yes}
 use Rattle.common.specs.Tests.{between}
-use Rattle.common.proofs.Bools.{holds, is-false, mp, between-of, between-lo, between-hi}
+use Rattle.common.proofs.Bools.{holds, is-false, mp, between-lo, between-hi}
 use Rattle.sharing.specs.Level.{sum}
 use Rattle.lead.specs.Figures.{leastVolts, mostEnergy}
 use Rattle.lead.specs.Leads.{fresh}
 use Rattle.lead.specs.declared.state.Lead.{Lead}
 use Rattle.lead.proofs.Phases.{from0, from-0}
 use Rattle.lead.proofs.Ticks.{start}
-use Rattle.lead.proofs.Goodness.{Good, good-says}
+use Rattle.lead.proofs.Goodness.{Good}
 use Rattle.lead.proofs.WholeTicks.{ticked-energy}
 use Rattle.post.specs.Rules.{decidedAt, leadAfter}
 use Rattle.post.specs.declared.head.Head.{Head}
 use Rattle.post.proofs.Posts.{Sound, energy-back}
-use Rattle.post.proofs.RuledTicks.{sound-stays, shown-command, shown-threshold}
+use Rattle.post.proofs.RuledTicks.{shown-command, shown-threshold}
 use Rattle.post.proofs.Taken.{Taken, good-taken}
 use Rattle.safety.specs.Lists.{Tick}
 use Rattle.safety.specs.Demand3.{noTick, inputsAt, leadsBefore, phaseBefore, phaseAt, Moves}
 use Rattle.safety.specs.Energy.{shortList, energyAt, wattsAt, sumOver, LatestStart, NeverStarted, Energy}
-use Rattle.safety.proofs.Outputs.{Left}
-use Rattle.safety.proofs.Steps.{one-more, levelAt, input, phase-most, phase-is, in-tick, unpowered}
+use Rattle.safety.proofs.Outputs.{Left, good-before}
+use Rattle.safety.proofs.Steps.{one-more, levelAt, input, phase-most, phase-is, in-tick, unpowered, unsent}
 
 -- no sum passes as many times its largest part
 sum-most : (n : ℕ) (f : ℕ → ℕ) (most : ℕ) → ((m : ℕ) → m < n → f m ≤ most) → sum n f ≤ n * most
@@ -85,10 +85,6 @@ module _ (h : Head) (ticks : List Tick) (k : ℕ) where
 module _
     (h : Head) (ticks : List Tick) (sound : Sound h (λ k. fresh))
     (left : (t : ℕ) → t < length ticks → Left h (getD ticks t noTick) (leadsBefore h ticks t)) where
-  sound-before : (t : ℕ) → Sound h (leadsBefore h ticks t)
-  sound-before zero = sound
-  sound-before (suc t) = sound-stays h (inputsAt h ticks t) (leadsBefore h ticks t) (sound-before t)
-
   module _ (k : ℕ) (y : k < h .leads) where
     -- a lead in tick t: as it found it, and as it left it
     abbrev before : ℕ → Lead
@@ -107,7 +103,7 @@ module _
     watts t = after t .command * after t .threshold
 
     good : (t : ℕ) → Good (h .ratings) (after t)
-    good t = good-says (h .ratings) (after t) (sound-before (suc t) .each k y)
+    good t = good-before h sound ticks (suc t) k y
 
     -- the state's bytes
     energy-is : (t : ℕ) → t < length ticks → energyAt h ticks t k ≡ after t .energy
@@ -125,14 +121,7 @@ module _
       where
         go : (b : Bool) → between 1 9 (phase (suc t)) ≡ b → after t .command * cond b (after t .threshold) 0 ≡ watts t
         go true e = refl
-        go false e =
-            let none : after t .command ≡ 0 =
-            good t .unpowered
-            (λ w.
-            subst T e
-            (between-of 1 9 (phase (suc t)) (omega (arith, between-lo 6 7 (phase (suc t)) w))
-            (omega (arith, between-hi 6 7 (phase (suc t)) w)))) in
-            rw none (omega arith)
+        go false e = rw (unsent h ticks k t e) (omega arith)
 
     -- a tick of the rules
     energy-next : (t : ℕ) → after t .energy ≡ min (cond (starts t) 0 (before t .energy) + watts t) mostEnergy

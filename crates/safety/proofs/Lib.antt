@@ -1,6 +1,7 @@
 -- Demand 3 over the trace of the rules: what one tick does to one lead (Steps), then a file for each claim (Closed to Zeros), and the demand
--- from them all (OverRules). That the bytes follow the rules, call by call (Agreement, Outputs, Numbers). The claim of request 2026-01
--- (Energy). The demands and that claim over every list of calls (Demands). What the checker computes: the starred cases and two sessions.
+-- from them all (OverRules). That the bytes follow the rules, call by call (Agreement, Outputs, Numbers). The claims of requests 2026-01
+-- (Energy) and 2026-05 (Offers). The demands and these claims over every list of calls (Demands). What the checker computes: the starred
+-- cases and two sessions.
 pub mod Steps
 pub mod Closed
 pub mod Heard
@@ -11,6 +12,7 @@ pub mod OverRules
 pub mod Agreement
 pub mod Outputs
 pub mod Energy
+pub mod Offers
 pub mod Numbers
 pub mod Demands
 pub mod Starred

@@ -10,6 +10,7 @@ use borrow.Author.Tests.{ne-eqb}
 use Rattle.common.proofs.Refused.{either-way}
 use Rattle.lead.specs.Leads.{fresh}
 use Rattle.lead.specs.declared.state.Lead.{Lead}
+use Rattle.lead.proofs.Goodness.{Good, good-says}
 use Rattle.post.specs.Rules.{TickInput, tickInput, leadAfter, shownAfter, postBytes}
 use Rattle.post.specs.Calls.{setupOf, Ticked}
 use Rattle.post.specs.declared.head.Head.{Head}
@@ -75,6 +76,14 @@ module _ (h : Head) where
       go refused done =
           either-way _ _ (λ (x : Ticked). AllLeft leads (next x)) _ (λ n. rw (ne-eqb _ _ n) refused)
           (λ z. left-more leads (tickInput input) (ticksOf (postBytes h (leadAfter h (tickInput input) leads)) calls) done)
+
+  -- the trace keeps its leads good
+  sound-before : Sound h (λ k. fresh) → (ticks : List Tick) (t : ℕ) → Sound h (leadsBefore h ticks t)
+  sound-before s ticks zero = s
+  sound-before s ticks (suc t) = sound-stays h (inputsAt h ticks t) (leadsBefore h ticks t) (sound-before s ticks t)
+
+  pub good-before : Sound h (λ k. fresh) → (ticks : List Tick) (t k : ℕ) → k < h .leads → Good (h .ratings) (leadsBefore h ticks t k)
+  good-before s ticks t k y = good-says (h .ratings) (leadsBefore h ticks t k) (sound-before s ticks t .each k y)
 
   -- a list of calls from a fresh post
   module _ (calls : List Call) (s : Sound h (λ k. fresh)) where

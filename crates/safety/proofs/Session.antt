@@ -1,9 +1,10 @@
--- The sessions, computed: phase, reason and command of two leads; phase, command and count of one. Assumes nothing.
+-- The sessions, computed: phase, reason and command of two leads; phase, command and count of one; what two leads want, get and are offered.
+-- Assumes nothing.
 use mathlib.Core.List.{[], _∷_}
 use mathlib.Core.Path.{_≡_, refl}
 use Rattle.post.specs.All.{postRules}
 use Rattle.safety.specs.Lists.{outcome, ticksOf, stretchesOf}
-use Rattle.safety.specs.Session.{session, twice, played, playedTwice}
+use Rattle.safety.specs.Session.{session, twice, played, playedTwice, offersFrom}
 
 pub session-shows :
     played
@@ -73,3 +74,24 @@ pub counts-show :
     ∷ [])
 unfolding twice outcome ticksOf stretchesOf postRules
 counts-show = refl
+
+-- of each lead phase, want, command and offer
+pub offers-show :
+    offersFrom 5 9
+    ≡ (
+    -- the first lead begins to charge, then the second; there is power for more than the rating of 12 A
+    (6 ∷ 2 ∷ 2 ∷ 12 ∷ 5 ∷ 0 ∷ 0 ∷ 12 ∷ [])
+    ∷ (6 ∷ 4 ∷ 4 ∷ 12 ∷ 6 ∷ 2 ∷ 2 ∷ 12 ∷ [])
+    ∷ (6 ∷ 6 ∷ 6 ∷ 12 ∷ 6 ∷ 4 ∷ 4 ∷ 12 ∷ [])
+    -- power is short: both want more than 3 A, are offered 3 A and get just these
+    ∷ (6 ∷ 8 ∷ 3 ∷ 3 ∷ 6 ∷ 6 ∷ 3 ∷ 3 ∷ [])
+    -- the first ramps down and ends, and is shown the rating; the offer to the second rises again
+    ∷ (7 ∷ 0 ∷ 0 ∷ 12 ∷ 6 ∷ 5 ∷ 5 ∷ 7 ∷ [])
+    ∷ (8 ∷ 0 ∷ 0 ∷ 12 ∷ 6 ∷ 7 ∷ 7 ∷ 7 ∷ [])
+    -- it wants more than that, and gets just what it is offered; to the first nothing is sent any more
+    ∷ (9 ∷ 0 ∷ 0 ∷ 12 ∷ 6 ∷ 9 ∷ 7 ∷ 7 ∷ [])
+    ∷ (10 ∷ 0 ∷ 0 ∷ 0 ∷ 6 ∷ 9 ∷ 7 ∷ 7 ∷ [])
+    ∷ (0 ∷ 0 ∷ 0 ∷ 0 ∷ 6 ∷ 9 ∷ 7 ∷ 7 ∷ [])
+    ∷ [])
+unfolding session ticksOf postRules
+offers-show = refl

@@ -14,7 +14,7 @@ use Rattle.lead.specs.declared.state.Lead.{Lead}
 use Rattle.lead.specs.declared.state.Car.{Car}
 use Rattle.lead.specs.declared.state.Input.{Input}
 use Rattle.lead.specs.declared.questions.Verdict.{Verdict}
-use Rattle.common.proofs.Bools.{between-lo, between-hi, at-or-past}
+use Rattle.common.proofs.Bools.{between-of, between-lo, between-hi, at-or-past}
 use Rattle.lead.proofs.Phases.{Test, Everywhere}
 use Rattle.lead.proofs.Answers.{verdict}
 use Rattle.lead.proofs.Ticks.{may, phaseAfter, started}
@@ -93,6 +93,15 @@ module _ (h : Head) (ticks : List Tick) (k : ℕ) where
   pub unpowered : (t : ℕ) → (T (between 6 7 (phase (suc t))) → ⊥) → command t ≡ 0
   unfolding leadAfter decidedAt
   unpowered t n = whole.ticked-0 (h .ratings) (input t) (lead t) (phase-most t) (levelAt h ticks t) (λ w. n (rw (phase-is t) w))
+
+  -- nor is there one where no frames are sent
+  pub unsent : (t : ℕ) → between 1 9 (phase (suc t)) ≡ false → command t ≡ 0
+  unsent t e =
+      unpowered t
+      (λ w.
+      subst T e
+      (between-of 1 9 (phase (suc t)) (omega (arith, between-lo 6 7 (phase (suc t)) w))
+      (omega (arith, between-hi 6 7 (phase (suc t)) w))))
 
   pub powered : (t : ℕ) → 0 < command t → T (between 6 7 (phase (suc t)))
   powered t c = go (between 6 7 (phase (suc t))) refl

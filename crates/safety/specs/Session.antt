@@ -1,12 +1,15 @@
--- Lists of calls in which what demand 3 and request 2026-01 speak of happens: their claims are not empty. Definitions only.
+-- Lists of calls in which what demand 3 and requests 2026-01 and 2026-05 speak of happens: their claims are not empty. Definitions only.
 use mathlib.Core.List.{List, [], _∷_, _++_}
-use Prim.Native.Nat.{ℕ, _-_}
-use lib.ListN.{length, replicate, take}
+use Prim.Native.Nat.{ℕ, zero, suc, _-_}
+use lib.ListN.{length, replicate, take, drop}
 use Rattle.little_endian.specs.Numbers.{byteAt, u64At, u32Bytes}
 use Rattle.lead_records.specs.Inputs.{inputSize}
 use Rattle.post.specs.Heads.{stateLength, outputLength, statePart, outputPart, headFrom}
+use Rattle.post.specs.Calls.{setupOf}
 use Rattle.post.specs.declared.head.Head.{Head}
-use Rattle.safety.specs.Lists.{Call, setup, tick, Tick, Stretch, stretchesOf}
+use Rattle.safety.specs.Lists.{Call, setup, tick, Tick, ticksOf, Stretch, stretchesOf}
+use Rattle.safety.specs.Demand3.{commandAt, phaseAt}
+use Rattle.safety.specs.Offers.{offerAt, wantedAmperesAt}
 
 -- bytes, filled up with zeros
 abbrev filledUp : ℕ → List ℕ → List ℕ
@@ -170,3 +173,16 @@ played = inStretches shown (stretchesOf [] session)
 
 abbrev pub playedTwice : List (List (List ℕ))
 playedTwice = inStretches counted (stretchesOf [] twice)
+
+-- 2026-05: the ticks of `session` up to the setup that begins a new list
+abbrev sessionTicks : List Tick
+sessionTicks = ticksOf (setupOf (head 2) (replicate (stateLength 2) 0) .state) (drop 1 session)
+
+-- a lead's phase, the amperes that it wants, its command and the amperes that H'108 offers, in tick t
+abbrev offeredTo : ℕ → ℕ → List ℕ
+offeredTo t k = phaseAt (head 2) sessionTicks t k ∷ wantedAmperesAt (head 2) sessionTicks t k ∷ commandAt (head 2) sessionTicks t k ∷ offerAt (head 2) sessionTicks t k ∷ []
+
+-- of both leads, in some ticks one after the other
+abbrev pub offersFrom : ℕ → ℕ → List (List ℕ)
+offersFrom t zero = []
+offersFrom t (suc n) = (offeredTo t 0 ++ offeredTo t 1) ∷ offersFrom (suc t) n

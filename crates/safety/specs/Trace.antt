@@ -1,6 +1,5 @@
--- What the rules give for a list of calls, those of document 01 with request 2026-01: their own trace. From an accepted setup on it starts at
--- fresh leads, and is worked out from the setup's numbers and the raw inputs alone: it knows nothing of `setupOf`, `tickOf` or the bytes that
--- these leave. Definitions only.
+-- What the rules in force give for a list of calls: their own trace. From an accepted setup on it starts at fresh leads, and is worked out from
+-- the setup's numbers and the raw inputs alone: it knows nothing of `setupOf`, `tickOf` or the bytes that these leave. Definitions only.
 use mathlib.Core.Bool.{cond}
 use mathlib.Core.List.{List, [], _∷_}
 use Prim.Native.Nat.{ℕ}

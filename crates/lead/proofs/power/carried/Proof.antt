@@ -13,18 +13,18 @@ returns c = rw (c .if1 .taken, div-zero)
 returns-2 : tie.Need-returns-2
 returns-2 c =
     let k = c .before .before .before .args in
-    met (k .wanted) (k .volts) (k .level) (c .before .before .if1 .left) (omega (arith, c .before .watts .ensures))
+    met (k .amperes) (k .volts) (k .level) (c .before .before .if1 .left) (omega (arith, c .before .watts .ensures))
 
 cast-result : tie.Need-cast-result
 cast-result c =
     let k = c .before .before .before .args in
-    let h : k .level / k .volts ≤ k .wanted = unmet-most (k .wanted) (k .volts) (k .level) (omega (arith, c .before .watts .ensures)) in
+    let h : k .level / k .volts ≤ k .amperes = unmet-most (k .amperes) (k .volts) (k .level) (omega (arith, c .before .watts .ensures)) in
     record { fits = omega arith }
 
 returns-3 : tie.Need-returns-3
 returns-3 c =
     let k = c .before .before .before .args in
-    unmet (k .wanted) (k .volts) (k .level) (omega (arith, c .before .watts .ensures))
+    unmet (k .amperes) (k .volts) (k .level) (omega (arith, c .before .watts .ensures))
 
 pub carried-spec : {M : Type 1} → statement M
 carried-spec =

@@ -26,7 +26,7 @@ module _ (c : Ratings) (level : ℕ) (turns : List Turn) (k : ℕ) where
   kept = encode (commandedTurn c level (getD turns k emptyTurn) .lead)
 
   abbrev shown : List ℕ
-  shown = turnShown c (commandedTurn c level (getD turns k emptyTurn))
+  shown = turnShown c level (commandedTurn c level (getD turns k emptyTurn))
 
 abbrev Inv-loop : tie.InvT-loop
 Inv-loop head level state₀ output₀ turns leads i₀ state output i =
@@ -42,7 +42,7 @@ loop-holds c =
     let a = c .before .before .before .args in (
       omega arith,
       filled-none stateSize (kept (a .head .ratings) (a .level) (a .t3)) (λ k. encode-length _) headSize (now (a .state)),
-      filled-none outputSize (shown (a .head .ratings) (a .level) (a .t3)) (λ k. output-length _ _ _ _) 0 (now (a .output)),
+      filled-none outputSize (shown (a .head .ratings) (a .level) (a .t3)) (λ k. output-length _ _ _ _ _) 0 (now (a .output)),
     )
 
 loop-again : tie.Need-loop-again Inv-loop μ-loop
@@ -62,9 +62,9 @@ loop-again c =
           (at + stateSize - at) (k .loop .state) (made .bytes .result) (j .copy .last .1 .0) (omega arith) (omega arith) refl
           (add-sub-cancel-left at stateSize) (made .bytes .ensures ∙ ap (λ (t : Turn). encode (t .lead)) e) (k .loop .inv .1)
           (j .copy .ensures .1),
-      filled-written outputSize (shown (a .head .ratings) (a .level) (a .t3)) (λ k. output-length _ _ _ _) 0 (now (a .output)) i to
-          (to + outputSize - to) (k .loop .output) (w .write .last .1 .1 .1 .1 .0) (omega arith) (omega arith)
-          (omega arith) (add-sub-cancel-left to outputSize) (w .write .ensures ∙ ap (turnShown (a .head .ratings)) e) (k .loop .inv .2),
+      filled-written outputSize (shown (a .head .ratings) (a .level) (a .t3)) (λ k. output-length _ _ _ _ _) 0 (now (a .output)) i to
+          (to + outputSize - to) (k .loop .output) (w .write .last .1 .1 .1 .1 .1 .0) (omega arith) (omega arith)
+          (omega arith) (add-sub-cancel-left to outputSize) (w .write .ensures ∙ ap (turnShown (a .head .ratings) (a .level)) e) (k .loop .inv .2),
     )
 
 same-length : tie.Need-same-length Inv-loop μ-loop
@@ -80,7 +80,7 @@ returns c =
     let p = k .before .before .before .before .pre in (
       filled-all stateSize (kept (a .head .ratings) (a .level) (a .t3)) (λ k. encode-length _) headSize (now (a .state)) (a .head .leads)
           (k .loop .i) _ (p .1) (omega arith) (k .loop .inv .1),
-      filled-all outputSize (shown (a .head .ratings) (a .level) (a .t3)) (λ k. output-length _ _ _ _) 0 (now (a .output)) (a .head .leads)
+      filled-all outputSize (shown (a .head .ratings) (a .level) (a .t3)) (λ k. output-length _ _ _ _ _) 0 (now (a .output)) (a .head .leads)
           (k .loop .i) _ (omega arith) (omega arith) (k .loop .inv .2),
     )
 

@@ -16,7 +16,7 @@ returns c =
     let m = k .before .before .before .before in
     let h = m .before .before .before in
     let a = h .before .before .before .before .before .args in
-    let q = k .write-frames .last .1 .1 .1 .1 .0 in
+    let q = k .write-frames .last .1 .1 .1 .1 .1 .0 in
     let s = a .lead in
     let w : List ℕ =
     s .stage .phase
