@@ -139,7 +139,7 @@ static inline float post_get_float(const uint8_t *place) {
  * 2. At 5 A or less and not before, in an emergency too (A.7.2.8): d1, d2 and the post's relays
  *    open. Up to here a tick that is done again takes over: its output is driven as always, but for
  *    the current, which rises from where it stands by no more than 2 A a tick. H'108 knows nothing
- *    of this: until then the car is offered more than it gets.
+ *    of the cut: until the current has risen again the car is offered more than it gets.
  *    From here on the charge is over, as none recovers by itself (A.7.2.10): whatever is commanded,
  *    no current, and d1, d2 and the relays stay open until the lead shows POST_PHASE_IDLE.
  * 3. The lock stays locked until the connector has less than 10 V (Table A.17).

@@ -3,7 +3,7 @@ use mathlib.Core.Bool.{Bool, true, false, cond}
 use mathlib.Core.List.{List, [], _∷_, _++_}
 use mathlib.Core.Path.{_≡_, refl}
 use Prim.Native.Nat.{ℕ}
-use lib.ListN.{length, length-append}
+use lib.ListN.{length, length-append, replicate}
 use Rattle.readings.specs.declared.Judged.{Judged}
 use Rattle.little_endian.specs.Numbers.{byteAt, u16At}
 use Rattle.little_endian.proofs.Bytes.{u16-back}
@@ -14,7 +14,7 @@ use Rattle.lead.specs.Power.{offered}
 use Rattle.lead.specs.declared.state.Lead.{Lead}
 use Rattle.lead.specs.declared.state.Ratings.{Ratings}
 use Rattle.lead_records.specs.Inputs.{contactsOf, frameRecords, inputOf}
-use Rattle.lead_records.specs.Outputs.{outputSize, offerOf, reportOf, whileSending, shownBytes, outputOf}
+use Rattle.lead_records.specs.Outputs.{outputSize, framesSize, offerOf, reportOf, whileSending, shownBytes, outputOf}
 
 sent-length : (p : ℕ) (frame : List ℕ) → length frame ≡ 8 → length (whileSending p frame) ≡ 8
 sent-length p frame e = go (between 1 9 p)
@@ -49,29 +49,28 @@ module _ (c : Ratings) (level : ℕ) (lock : Bool) (reading : Judged) (s : Lead)
   unfolding outputOf shownBytes
   output-command = refl
 
+  -- what is read behind the first eight bytes: from both frames while they are sent, else from zeros
+  from-frames :
+      (look : List ℕ → ℕ) (sent : ℕ)
+      → look (shownBytes s ++ offerBytes (offerOf c level s) ++ reportBytes (reportOf lock reading s)) ≡ sent
+      → look (shownBytes s ++ replicate framesSize 0) ≡ 0
+      → look (outputOf c level lock reading s) ≡ cond (between 1 9 (s .stage .phase)) sent 0
+  unfolding outputOf shownBytes
+  from-frames look sent there nothing = go (between 1 9 (s .stage .phase)) refl
+    where
+      go : (b : Bool) → between 1 9 (s .stage .phase) ≡ b → look (outputOf c level lock reading s) ≡ cond b sent 0
+      go true e = rw e there
+      go false e = rw e nothing
+
   -- bytes 4 and 5 of H'108, which stands from byte 8 on, are the threshold while it is sent
   pub output-threshold : u16At (outputOf c level lock reading s) 12 ≡ cond (between 1 9 (s .stage .phase)) (s .threshold) 0
-  unfolding outputOf shownBytes offerBytes
-  output-threshold = go (between 1 9 (s .stage .phase)) refl
-    where
-      go :
-          (b : Bool)
-          → between 1 9 (s .stage .phase) ≡ b
-          → u16At (outputOf c level lock reading s) 12 ≡ cond b (s .threshold) 0
-      go true e = rw e (u16-back (s .threshold))
-      go false e = rw e
+  unfolding shownBytes offerBytes
+  output-threshold = from-frames (λ (b : List ℕ). u16At b 12) (s .threshold) (u16-back (s .threshold)) refl
 
-  -- byte 3 of H'108 is what is offered while it is sent
+  -- byte 3 is what is offered
   pub output-offer : byteAt (outputOf c level lock reading s) 11 ≡ cond (between 1 9 (s .stage .phase)) (offered c level s) 0
-  unfolding outputOf shownBytes offerBytes
-  output-offer = go (between 1 9 (s .stage .phase)) refl
-    where
-      go :
-          (b : Bool)
-          → between 1 9 (s .stage .phase) ≡ b
-          → byteAt (outputOf c level lock reading s) 11 ≡ cond b (offered c level s) 0
-      go true e = rw e
-      go false e = rw e
+  unfolding shownBytes offerBytes
+  output-offer = from-frames (λ (b : List ℕ). byteAt b 11) (offered c level s) refl refl
 
 module _ (b : List ℕ) (resistance : ℕ) where
   pub input-contacts : inputOf b resistance .contacts ≡ contactsOf (byteAt b 0)
