@@ -17,7 +17,7 @@ use shared::post::number;
 use shared::stops::reasons;
 
 use crate::causes::{head_flaw, lead_flaw, lead_input_flaws, BadLead, Setup, Tick};
-use crate::turns::{wanted, Turn};
+use crate::turns::{charging, wanted, Turn};
 
 /// The parts in which a thing has to occur.
 const SESSIONS: Counts = [1, 0, 0];
@@ -209,10 +209,6 @@ fn wants_rise(turns: &[Turn], order: [usize; MOST_LEADS]) -> bool {
     turns.len() == MOST_LEADS
         && turns[order[0]].want > 0
         && order.windows(2).all(|pair| turns[pair[0]].want < turns[pair[1]].want)
-}
-
-fn charging(turns: &[Turn]) -> impl Iterator<Item = &Turn> {
-    turns.iter().filter(|turn| turn.after.phase == 6)
 }
 
 fn any_wants_in(turns: &[Turn], phase: u8) -> bool {

@@ -85,12 +85,17 @@ pub fn wanted(turns: &[Turn]) -> u32 {
     turns.iter().map(|turn| turn.want).sum()
 }
 
+/// Those in phase 6 after the tick.
+pub fn charging(turns: &[Turn]) -> impl Iterator<Item = &Turn> {
+    turns.iter().filter(|turn| turn.after.phase == 6)
+}
+
 /// An allowance near one at which a command or an offer changes.
 pub fn edge(turns: &[Turn], dice: &mut Dice) -> u32 {
-    let charging: Vec<&Turn> = turns.iter().filter(|turn| turn.after.phase == 6).collect();
-    match charging.is_empty() || dice.below(4) > 0 {
+    let offered: Vec<&Turn> = charging(turns).collect();
+    match offered.is_empty() || dice.below(4) > 0 {
         true => edge_of_commands(turns, dice),
-        false => edge_of_an_offer(dice.pick(&charging), dice),
+        false => edge_of_an_offer(dice.pick(&offered), dice),
     }
 }
 

@@ -1,4 +1,4 @@
--- What a command leaves alone, and how large it is. Assumes nothing.
+-- What a command leaves alone, how large it is, and what is offered beside it. Assumes nothing.
 use mathlib.Core.Bool.{Bool, true, false, cond}
 use mathlib.Core.Path.{_≡_, refl, _∙_}
 use Prim.Native.Nat.{ℕ, _+_, _-_, _*_, _/_, _≤_, min}
@@ -13,7 +13,7 @@ use Rattle.lead.specs.Power.{wanted, wantedWatts, offered, energyAfter, 
 use Rattle.lead.specs.declared.state.Lead.{Lead}
 use Rattle.lead.specs.declared.state.Ratings.{Ratings}
 use Rattle.common.proofs.Bools.{between-of}
-use Rattle.lead.proofs.Watts.{carried-most, carried-is}
+use Rattle.lead.proofs.Watts.{carried-is}
 
 module _ (c : Ratings) (level : ℕ) (s : Lead) where
   pub command-stage : commanded c level s .stage ≡ s .stage
@@ -44,7 +44,7 @@ module _ (c : Ratings) (level : ℕ) (s : Lead) where
 
   pub command-most : commanded c level s .command ≤ wanted c s
   unfolding commanded wantedWatts
-  command-most = carried-most (wanted c s) (s .threshold) level
+  command-most = omega (arith, carried-is (wanted c s) (s .threshold) level)
 
 module _ (c : Ratings) (s : Lead) where
   pub watts-are : wantedWatts c s ≡ wanted c s * s .threshold

@@ -11,10 +11,6 @@ pub watts-fit : (amperes volts : ℕ) → amperes ≤ 255 → volts ≤ 65535 �
 watts-fit amperes volts a v = let h : amperes * volts ≤ 255 * 65535 = mul-le-mul a v in omega arith
 
 module _ (amperes volts level : ℕ) where
-  -- what a level carries is no more than what was wanted
-  pub carried-most : min (amperes * volts) level / volts ≤ amperes
-  carried-most = div-le-of-le-mul volts (omega (arith, mul-comm amperes volts))
-
   pub met : (volts ≡ 0 → ⊥) → amperes * volts ≤ level → amperes ≡ min (amperes * volts) level / volts
   met n h = rw (min-eq-left h) (sym (mul-div-cancel amperes (omega arith)))
 
@@ -24,7 +20,7 @@ module _ (amperes volts level : ℕ) where
   pub unmet-most : level < amperes * volts → level / volts ≤ amperes
   unmet-most h = div-le-of-le-mul volts (omega (arith, mul-comm amperes volts))
 
--- the smaller of want and level carries the smaller of both in whole amperes
+-- what the smaller of a want and a level carries is the smaller of that want and what the level carries
 pub carried-is : (amperes volts level : ℕ) → min (amperes * volts) level / volts ≡ min amperes (level / volts)
 carried-is amperes zero level = rw (div-zero (min (amperes * 0) level), div-zero level) (omega arith)
 carried-is amperes (suc v) level = go (leb (amperes * suc v) level) refl

@@ -82,7 +82,7 @@ module _ (h : Head) (buffer : List ℕ) (accepted : setupOf h buffer .number ≡
 
   -- Request 2026-05: no command above what the car is offered, and just that where a lead that charges wants more
   pub offers : (calls : List Call) → Offers h (ticksOf (setupOf h buffer .state) calls)
-  offers calls = rw state-is (offers-of h (ticksOf (postBytes h (λ k. fresh)) calls) sound (left h calls sound))
+  offers calls = rw state-is (offers-of h (ticksOf (postBytes h (λ k. fresh)) calls) sound (left h calls sound) (shown h calls sound))
 
 -- what an accepted setup leaves of the post's state
 begins : (state : List ℕ) (h : Head) (buffer : List ℕ) → setupOf h buffer .number ≡ 0 → outcome state (setup h buffer) .state ≡ setupOf h buffer .state

@@ -14,7 +14,7 @@ use Rattle.lead.proofs.Commands.{command-stage, offered-commanded, command-6, c
 use Rattle.post.specs.Rules.{decidedAt, leadAfter}
 use Rattle.post.specs.declared.head.Head.{Head}
 use Rattle.post.proofs.Posts.{Sound}
-use Rattle.post.proofs.RuledTicks.{shown-command, shown-offer}
+use Rattle.post.proofs.RuledTicks.{shown-offer}
 use Rattle.safety.specs.Lists.{Tick}
 use Rattle.safety.specs.Demand3.{noTick, inputsAt, commandAt, leadsBefore, phaseAt}
 use Rattle.safety.specs.Offers.{offerAt, wantedAmperesAt, ruledOfferAt, Offers}
@@ -23,13 +23,11 @@ use Rattle.safety.proofs.Steps.{levelAt, command, unsent}
 
 module _
     (h : Head) (ticks : List Tick) (sound : Sound h (λ k. fresh))
-    (left : (t : ℕ) → t < length ticks → Left h (getD ticks t noTick) (leadsBefore h ticks t)) where
+    (left : (t : ℕ) → t < length ticks → Left h (getD ticks t noTick) (leadsBefore h ticks t))
+    (shown : (t k : ℕ) → t < length ticks → k < h .leads → commandAt h ticks t k ≡ leadsBefore h ticks (suc t) k .command) where
   module _ (t k : ℕ) (x : t < length ticks) (y : k < h .leads) where
     abbrev decided : Lead
     decided = decidedAt h (inputsAt h ticks t) (leadsBefore h ticks t) k
-
-    command-is : commandAt h ticks t k ≡ command h ticks k t
-    command-is = rw (left t x .output) (shown-command h (inputsAt h ticks t) (leadsBefore h ticks t) k y)
 
     offered-is : offerAt h ticks t k ≡ cond (between 1 9 (phaseAt h ticks t k)) (ruledOfferAt h ticks t k) 0
     offered-is = rw (left t x .output) (shown-offer h (inputsAt h ticks t) (leadsBefore h ticks t) k y)
@@ -45,7 +43,7 @@ module _
         rw by-decision (command-offered (h .ratings) (levelAt h ticks t) decided (good-before h sound ticks (suc t) k y .most))
 
     never-above : commandAt h ticks t k ≤ offerAt h ticks t k
-    never-above = rw (command-is, offered-is) (go (between 1 9 (phaseAt h ticks t k)) refl)
+    never-above = rw (shown t k x y, offered-is) (go (between 1 9 (phaseAt h ticks t k)) refl)
       where
         go : (b : Bool) → between 1 9 (phaseAt h ticks t k) ≡ b → command h ticks k t ≤ cond b (ruledOfferAt h ticks t k) 0
         go true e = within
@@ -58,7 +56,7 @@ module _
         offered-is ∙ ap (λ (p : ℕ). cond (between 1 9 p) (ruledOfferAt h ticks t k) 0) six ∙ by-decision in
         let charges : decided .stage .phase ≡ 6 =
         sym (ap (λ (g : Stage). g .phase) (command-stage (h .ratings) (levelAt h ticks t) decided)) ∙ six in
-        omega (arith, command-is, command-6 (h .ratings) (levelAt h ticks t) decided charges)
+        omega (arith, shown t k x y, command-6 (h .ratings) (levelAt h ticks t) decided charges)
 
   pub offers-of : Offers h ticks
   offers-of = record { offered-is = offered-is; never-above = never-above; exactly = exactly }

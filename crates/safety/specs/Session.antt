@@ -180,7 +180,12 @@ sessionTicks = ticksOf (setupOf (head 2) (replicate (stateLength 2) 0) .state) (
 
 -- a lead's phase, the amperes that it wants, its command and the amperes that H'108 offers, in tick t
 abbrev offeredTo : ℕ → ℕ → List ℕ
-offeredTo t k = phaseAt (head 2) sessionTicks t k ∷ wantedAmperesAt (head 2) sessionTicks t k ∷ commandAt (head 2) sessionTicks t k ∷ offerAt (head 2) sessionTicks t k ∷ []
+offeredTo t k =
+    phaseAt (head 2) sessionTicks t k
+    ∷ wantedAmperesAt (head 2) sessionTicks t k
+    ∷ commandAt (head 2) sessionTicks t k
+    ∷ offerAt (head 2) sessionTicks t k
+    ∷ []
 
 -- of both leads, in some ticks one after the other
 abbrev pub offersFrom : ℕ → ℕ → List (List ℕ)
