@@ -365,14 +365,15 @@ static inline float post_get_float(const uint8_t *place) {
 #define POST_PHASE_FINAL_DISCHARGE   9 /* before unlocking */
 #define POST_PHASE_ENDED             10
 
-/* Why a lead stopped. 11 to 18 are urgent: no current in that very tick. Phase and command say all
- * that a host has to do about it; the number is for the desk, and nothing is to be worked out from
- * it. */
+/* Why a lead stopped. 11 to 18 are urgent: no current in that very tick. So is 23 where, in phases
+ * 2 to 6, the car's permission opened in the very tick whose H'102 says not enabled; by H'102 alone
+ * 23 is an ordinary stop. Phase and command say all that a host has to do about a stop; the number
+ * is for the desk, and nothing is to be worked out from it. */
 #define POST_REASON_NONE                 0
 #define POST_REASON_EMERGENCY_BUTTON     11
 #define POST_REASON_UNPLUGGED            12 /* the plug contact opened */
 #define POST_REASON_GROUND_FAULT         13 /* "leak trip" */
-#define POST_REASON_PERMISSION_OPEN      14 /* the car's permission wire opened */
+#define POST_REASON_PERMISSION_OPEN      14 /* the car's permission wire opened; see above */
 #define POST_REASON_BAD_READING          15 /* volts or amperes missing or out of range */
 #define POST_REASON_OVERVOLTAGE          16 /* connector volts above the threshold */
 #define POST_REASON_OVERCURRENT          17 /* amperes above rated + 2.5 */

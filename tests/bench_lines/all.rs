@@ -54,6 +54,8 @@ fn lines() -> Vec<Line> {
         let unchanging = vec![refused::any(questions.len(), &no_lines, dice)];
         lines.extend(sessions::stopped(phase, &questions, unchanging, dice));
     }
+    // With dice of its own, so that the lines behind it are what they are without it.
+    lines.extend(sessions::withdrawn(&mut Dice::new(2026_06)));
     for (leads, ticks) in [(1, 20), (2, 8), (3, 4), (4, 2)] {
         lines.extend(sessions::roaming(leads, ticks, &no_lines, dice));
     }

@@ -37,9 +37,10 @@ const SETUPS: [(&str, &[&str]); 6] = [
 ];
 
 #[rustfmt::skip]
-const KINDS: [&str; 10] = [
+const KINDS: [&str; 12] = [
     "lines", "of a fit size", "last line without its line feed", "every byte", "? before any setup", "setup answered 0",
     "tick answered 0", "setup throws away a lead that charges", "two commands apart in phase 6", FALLS_AND_RISES,
+    "reason 23 from phase 6 to 7", "reason 23 from phase 6 to 9",
 ];
 const FALLS_AND_RISES: &str = "one command falls in phase 6, another rises";
 const ONE_ZERO_TOO_MANY: &str = "1001 characters, accepted but for one zero";
@@ -226,10 +227,16 @@ impl Coverage {
     fn count_tick(&mut self, hex: &str, shown: &str) {
         let shown = bytes_of(shown);
         let (leads, _) = shown.as_chunks::<OUTPUT_BYTES>();
-        for lead in leads {
+        for (at, lead) in leads.iter().enumerate() {
             let (phase, reason) = (lead[PHASE], lead[REASON]);
+            let was_in_6 = self.shown.get(at * OUTPUT_BYTES + PHASE) == Some(&6);
             self.count(true, "phase #", phase);
             self.count(reason != REASON_NONE, "reason #", reason);
+            self.count(
+                was_in_6 && reason == 23,
+                "reason 23 from phase 6 to #",
+                phase,
+            );
             self.count(lead[COMMAND] > 0, "command above 0 in phase #", phase);
         }
         let length = hex.len() / 2;

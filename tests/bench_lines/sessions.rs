@@ -27,7 +27,20 @@ struct Session<'a> {
     allowance: u32,
 }
 
-impl Session<'_> {
+impl<'a> Session<'a> {
+    /// A post that is set up, and a car for each lead, with this charging time.
+    fn begin(numbers: Numbers, time: (u8, u8), dice: &'a mut Dice) -> Session<'a> {
+        let car = |(volts, request)| Car::new(volts, volts - 10, request, time);
+        let cars = [(400, 60), (200, 60), (500, 9), (60, 255)].map(car);
+        Session {
+            lines: vec![numbers::line(&numbers)],
+            dice,
+            post: Post::set_up(&numbers),
+            cars: cars[..numbers.leads as usize].to_vec(),
+            allowance: AMPLE,
+        }
+    }
+
     /// What takes every lead to its next phase; one that has ended stays unplugged.
     fn scenes(&self) -> Vec<Scene> {
         let onward = |(lead, car): (&Lead, &Car)| match lead.phase {
@@ -60,6 +73,16 @@ impl Session<'_> {
         }
     }
 
+    fn standing(&self, at: usize) -> Standing {
+        let lead = self.post.leads()[at];
+        Standing::new(
+            lead.phase,
+            lead.threshold,
+            &self.cars[at],
+            &self.post.rating,
+        )
+    }
+
     /// One lead gets a no to a question until it stops, the others go on. Where it takes time,
     /// refused ticks come between, which are not to be counted.
     fn stop(&mut self, question: u8, at: usize) {
@@ -67,11 +90,10 @@ impl Session<'_> {
         while self.post.leads()[at].reason != question {
             ticks.next().expect("the question is a stop");
             let lead = self.post.leads()[at];
-            let car = &self.cars[at];
-            let standing = Standing::new(lead.phase, lead.threshold, car, &self.post.rating);
+            let standing = self.standing(at);
             let mut scenes = self.scenes();
             if takes_time(question) {
-                scenes[at] = Scene::waiting(lead.phase, lead.command, car);
+                scenes[at] = Scene::waiting(lead.phase, lead.command, &self.cars[at]);
                 let flaw = self.dice.pick(&refused::flaws());
                 self.lines.push(refused::flawed(at, flaw, self.dice));
             }
@@ -90,15 +112,7 @@ pub fn stopped(phase: u8, questions: &[u8], unchanging: Vec<Line>, dice: &mut Di
     let ohms = dice.pick(&[0.0f32, -0.0, 0.333]).to_bits();
     let numbers = Numbers::of([leads as u32, PLAIN.volts, amperes, ohms]);
     let time = (IN_MINUTES, if questions.contains(&29) { 0 } else { 10 });
-    let car = |(volts, request)| Car::new(volts, volts - 10, request, time);
-    let cars = [(400, 60), (200, 60), (500, 9), (60, 255)].map(car);
-    let mut session = Session {
-        lines: vec![numbers::line(&numbers)],
-        dice,
-        post: Post::set_up(&numbers),
-        cars: cars[..leads].to_vec(),
-        allowance: AMPLE,
-    };
+    let mut session = Session::begin(numbers, time, dice);
     session.to(phase);
     for line in unchanging {
         session.lines.push(line);
@@ -111,6 +125,23 @@ pub fn stopped(phase: u8, questions: &[u8], unchanging: Vec<Line>, dice: &mut Di
     for (at, &question) in questions.iter().enumerate() {
         session.stop(question, at);
     }
+    session.to(0);
+    session.lines
+}
+
+/// Two leads charge; permission opens at one of them in the tick in which its car says not enabled
+/// (2026-06).
+pub fn withdrawn(dice: &mut Dice) -> Vec<Line> {
+    let numbers = Numbers { leads: 2, ..PLAIN };
+    let mut session = Session::begin(numbers, (IN_MINUTES, 10), dice);
+    session.to(6);
+    session.stay_in_6();
+    let standing = session.standing(0);
+    let mut scenes = session.scenes();
+    for question in [14, 23] {
+        scenes[0] = no(question, scenes[0], &standing, session.dice);
+    }
+    session.tick(&scenes);
     session.to(0);
     session.lines
 }

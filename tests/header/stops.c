@@ -49,6 +49,12 @@ static const struct stop {
 };
 enum { STOPS = sizeof stops / sizeof *stops };
 
+/* What two of these rows do by themselves, in one tick: the other kind of stop with this reason. It
+ * stands apart, as in the table no bit has two names. */
+static const struct stop withdrawal =
+    STOP(NOT_ENABLED, URGENT, WAITING, .flip[CONTACTS] = POST_CONTACT_PERMISSION,
+         .flip[STATUS] = POST_STATUS_ENABLED);
+
 static struct scene changed(const struct stop *stop) {
     struct scene scene = way[stop->from].scene;
     for (unsigned i = 0; i < BIT_BYTES; i++)
@@ -109,6 +115,7 @@ static void try_bit(unsigned byte, uint8_t bit) {
 void try_stops(void) {
     for (unsigned i = 0; i < STOPS; i++)
         try_stop(&stops[i]);
+    try_stop(&withdrawal);
     for (unsigned byte = 0; byte < BIT_BYTES; byte++)
         for (unsigned bit = 0; bit < 8; bit++)
             try_bit(byte, (uint8_t)(1U << bit));

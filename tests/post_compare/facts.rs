@@ -4,7 +4,10 @@
 use std::collections::BTreeSet;
 use std::ops::RangeInclusive;
 
-use second::frames::{Heard, FAULTS, FRAME_LENGTH, MOST_AMPERES_SHOWN, RECORD_BYTES, SYSTEM_FAULT};
+use second::frames::{
+    Heard, CAR_STATUS, ENABLED, FAULTS, FRAME_LENGTH, MOST_AMPERES_SHOWN, RECORD_BYTES,
+    SYSTEM_FAULT,
+};
 use second::lead::*;
 use second::post::*;
 use second::readings::{Tenths, MOST_AMPERES, MOST_CABLE_RESISTANCE, MOST_VOLTS};
@@ -297,6 +300,7 @@ pub fn of_turns() -> Table<Turn> {
     }
     add_energies(&mut table);
     add_offers(&mut table);
+    add_withdrawals(&mut table);
     // A session leaves phase 1 after all three frames.
     for seen in 0..SEEN_ALL {
         table.row(HANDED_IN, format!("seen {seen} in 2-6"), move |turn| turn.before.seen == seen && turn.began_in(2..=6));
@@ -359,6 +363,50 @@ fn add_offers(table: &mut Table<Turn>) {
             turn.stopped_in(6) && turn.after.phase == into && turn.level_below_rated() && turn.offer() == turn.rated());
     }
 }
+
+/// Permission that opens where the car says so in the same tick, and where it does not.
+#[rustfmt::skip]
+fn add_withdrawals(table: &mut Table<Turn>) {
+    for phase in (0..=LAST_PHASE).filter(|&phase| matters_in(phase)) {
+        table.row(REACHED, format!("permission opens in {phase}, not enabled"), move |turn| turn.before.phase == phase && turn.withdraws());
+        table.row(REACHED, format!("permission opens in {phase}, enabled"), move |turn|
+            turn.before.phase == phase && turn.opens() && turn.sent.status.is_some_and(|status| status.enabled()));
+        table.row(REACHED, format!("permission opens in {phase}, no H'102"), move |turn|
+            turn.before.phase == phase && turn.opens() && turn.sent.status.is_none());
+    }
+    for earlier in QUESTIONS.iter().map(|question| question.number).take_while(|&number| number < 14) {
+        table.row(REACHED, format!("stop {earlier} in 2-6, where permission opens too, not enabled"), move |turn| turn.stopped_for(earlier)
+            && matters_in(turn.before.phase) && turn.is_open(contact::CHARGE_PERMISSION) && turn.sent.withdraws());
+    }
+    for (later, gets_no) in BESIDE_14 {
+        let asked = QUESTIONS.iter().find(|question| question.number == later).expect("a question");
+        table.row(REACHED, format!("permission opens in 2-6, not enabled, and {later} gets a no too"), move |turn|
+            turn.withdraws() && turn.began_in(asked.first..=asked.last) && gets_no(turn));
+    }
+    for (phase, word) in [(1, "waits"), (8, "goes on")] {
+        table.row(REACHED, format!("permission is open in {phase}, not enabled, and the lead {word}"), move |turn|
+            turn.before.phase == phase && turn.is_open(contact::CHARGE_PERMISSION) && turn.sent.withdraws()
+                && !matches!(turn.decision, Decision::Stopped { .. }));
+    }
+}
+
+/// Whether it matters in the phase that the car says so.
+fn matters_in(phase: u8) -> bool {
+    reason_of_no(14, phase, true) != reason_of_no(14, phase, false)
+}
+
+/// The questions from 15 to 22, and when each gets a no where it is asked. With an H'102 there is
+/// no silence, which is 19.
+#[rustfmt::skip]
+const BESIDE_14: [(u8, fn(&Turn) -> bool); 7] = [
+    (15, |turn| turn.measured.is_none()),
+    (16, |turn| turn.measured.is_some_and(|of| of.connector_volts > turn.standing.most_volts())),
+    (17, |turn| turn.measured.is_some() && turn.value(AMPERES) > Some(turn.standing.most_amperes())),
+    (18, |turn| turn.is_open(contact::CONNECTOR_LOCK)),
+    (20, |turn| !turn.after.car.faults_clear()),
+    (21, |turn| turn.after.seen == SEEN_ALL && turn.after.car.target_voltage > turn.standing.threshold),
+    (22, |turn| !turn.after.car.in_park()),
+];
 
 /// Energies kept and at their edges, phase by phase and byte by byte.
 #[rustfmt::skip]
@@ -463,6 +511,27 @@ impl Turn {
 
     fn stopped_as(&self, is_urgent: bool, phase: u8) -> bool {
         matches!(self.decision, Decision::Stopped { urgent, from, .. } if urgent == is_urgent && from == phase)
+    }
+
+    fn is_open(&self, contact: u8) -> bool {
+        self.input[input_place::CONTACTS] & contact == 0
+    }
+
+    /// A stop for permission, in a phase in which it matters whether the car says so.
+    fn opens(&self) -> bool {
+        self.stopped_for(14) && matters_in(self.before.phase)
+    }
+
+    /// Such a stop, and this tick's H'102 says not enabled.
+    fn withdraws(&self) -> bool {
+        self.opens() && self.sent.withdraws()
+    }
+
+    /// What each H'102 of the right length says of enabled, or each of another length.
+    fn enabled_by(&self, right_length: bool) -> impl Iterator<Item = bool> + '_ {
+        let statuses = self.frames().filter(|record| number(*record, 0) == CAR_STATUS);
+        let those = statuses.filter(move |record| (record[2] == FRAME_LENGTH) == right_length);
+        those.map(|record| record[8] & ENABLED != 0)
     }
 
     /// These and no others.
@@ -638,6 +707,29 @@ const TURNS: &[Fact<Turn>] = &[
     (REACHED, "reason cleared by a start", |turn| turn.moved_from(0) && turn.before.reason != 0),
     (REACHED, "reason shown in 0", |turn| turn.stayed_in(0) && turn.before.reason != 0),
     (REACHED, "stop 20 for a system fault alone", |turn| turn.stopped_for_faults(0, SYSTEM_FAULT)),
+
+    (REACHED, "permission opens in 2-6, enabled after an earlier H'102 that was not", |turn| turn.opens()
+        && turn.sent.status.is_some_and(|status| status.enabled()) && turn.enabled_by(true).any(|enabled| !enabled)),
+    (REACHED, "permission opens in 2-6, not enabled after an earlier H'102 that was", |turn| turn.withdraws()
+        && turn.enabled_by(true).any(|enabled| enabled)),
+    (REACHED, "permission opens in 2-6, not enabled only by a wrong length", |turn| turn.opens()
+        && turn.enabled_by(true).all(|enabled| enabled) && turn.enabled_by(false).any(|enabled| !enabled)),
+    (REACHED, "permission opens in 2-6, enabled only by a wrong length", |turn| turn.withdraws()
+        && turn.enabled_by(true).all(|enabled| !enabled) && turn.enabled_by(false).any(|enabled| enabled)),
+    (REACHED, "permission opens in 2-6, not enabled only past the count", |turn| turn.opens()
+        && turn.enabled_by(true).all(|enabled| enabled) && turn.past_the_count.withdraws()),
+    (REACHED, "permission opens in 2-6, enabled only past the count", |turn| turn.withdraws()
+        && turn.enabled_by(true).all(|enabled| !enabled) && turn.past_the_count.status.is_some_and(|status| status.enabled())),
+    (HANDED_IN, "permission opens in 2-6, not enabled only as remembered", |turn| turn.opens()
+        && turn.sent.status.is_none() && !turn.after.car.enabled()),
+    (HANDED_IN, "permission opens in 2-6, not enabled now and as remembered", |turn| turn.withdraws() && !turn.before.car.enabled()),
+    (REACHED, "command cut off where permission opens, not enabled", |turn| turn.withdraws() && turn.lowered_into(9)),
+    (REACHED, "reason remains where permission opens in 7, not enabled", |turn| turn.stopped_for(14) && turn.began_in(7..=7)
+        && turn.sent.withdraws() && turn.before.reason != 0 && turn.after.reason == turn.before.reason),
+    (HANDED_IN, "reason 0 remains where permission opens in 7, not enabled", |turn| turn.stopped_for(14) && turn.began_in(7..=7)
+        && turn.sent.withdraws() && turn.after.reason == 0),
+    (HANDED_IN, "reason overwritten where permission opens in 2-6, not enabled", |turn| turn.withdraws() && turn.before.reason != 0
+        && turn.before.reason != turn.after.reason),
 
     (REACHED, "age 29 doesn't end 7", |turn| turn.stayed_in(7) && turn.before.age == RAMP_DOWN_LIMIT - 1),
     (REACHED, "7 to 8 at age 30 with more than 49 tenths", |turn| turn.moved_from(7)

@@ -137,6 +137,14 @@ pub struct Heard {
     pub status: Option<CarStatus>,
 }
 
+impl Heard {
+    /// 2026-06: "an H'102 counted in this tick with enabled clear". It is the last
+    /// of the tick; what an earlier tick left remembered is not asked.
+    pub fn withdraws(&self) -> bool {
+        self.status.is_some_and(|status| !status.enabled())
+    }
+}
+
 /// "Other identifiers, or a length other than 8, are ignored. Of several with
 /// one identifier in a tick, the last counts."
 pub fn hear(records: &[Record]) -> Heard {
@@ -315,6 +323,25 @@ mod tests {
             assert_eq!(hear(&[record(identifier, 8, [1; 8])]), Heard::default());
         }
         assert_eq!(hear(&[]), Heard::default());
+    }
+
+    #[test]
+    fn withdrawing() {
+        let [set, clear] = [0xFF, 0xFF & !ENABLED].map(|status| [0, 0, 0, 0, 0, status, 0, 0]);
+        let status = |data| record(0x102, 8, data);
+        for (records, expected) in [
+            (&[][..], false),
+            (&[status(set)], false),
+            (&[status(clear)], true),
+            (&[status(clear), status(set)], false),
+            (&[status(set), status(clear)], true),
+            (&[status(set), record(0x102, 7, clear)], false),
+            (&[status(clear), record(0x102, 9, set)], true),
+            (&[record(0x100, 8, clear), record(0x101, 8, clear)], false),
+            (&[status(clear), record(0x101, 8, set)], true),
+        ] {
+            assert_eq!(hear(records).withdraws(), expected, "{records:?}");
+        }
     }
 
     #[test]

@@ -6,7 +6,7 @@
 //! tick, but for the energy, which is not shown, and beside it the amperes that
 //! the level lets the lead offer, which are not remembered.
 
-use crate::frames::{self, CarStatus, ChargerFlags, ChargingTime, Record, Ticks};
+use crate::frames::{self, CarStatus, ChargerFlags, ChargingTime, Heard, Record, Ticks};
 use crate::readings::{insulation_holds, Measured, Meter, Reading, Tenths};
 
 pub const STATE_BYTES: usize = 32;
@@ -361,7 +361,8 @@ struct Now<'a> {
 }
 
 /// A question is asked in the phases from `first` to `last`. Whether a no is an
-/// urgent stop is said here, never taken from the number.
+/// urgent stop is said here, never taken from the number, nor from the reason shown:
+/// 23 comes with stops of both kinds (2026-06).
 pub struct Question {
     pub number: u8,
     pub urgent: bool,
@@ -454,6 +455,20 @@ impl Now<'_> {
     }
 }
 
+/// The reason that the stop of a question shows, where it records one: the
+/// question's number, but for 2026-06. "In phases 2 to 6, with questions 11–13 yes,
+/// permission open and an H'102 counted in this tick with enabled clear, the reason
+/// is 23 and no longer 14; nothing else changes." As 14's no is the first, 11–13 got
+/// a yes and permission is open; what 15–22 would answer does not matter. The stop
+/// is still question 14's: "The lead still stops as urgent, with command 0 and phase
+/// 9."
+pub fn reason_of_no(question: u8, phase: u8, withdraws: bool) -> u8 {
+    match (question, phase) {
+        (14, 2..=6) if withdraws => 23,
+        _ => question,
+    }
+}
+
 /// "Phase 1 stops into 10. Urgent stops from 2–8 lead to 9. Others lead from
 /// 2–5 to 8, from 6 to 7."
 fn stop_leads_to(phase: u8, urgent: bool) -> u8 {
@@ -496,7 +511,8 @@ const MOVES: [Move; 10] = [
     a_move(10, 0, |now| !now.input.contacts.plug()),
 ];
 
-/// What a lead's tick came to.
+/// What a lead's tick came to. A stop names the question that got the no; which
+/// reason that shows, `reason_of_no` says.
 #[derive(Clone, Copy, Debug, PartialEq, Eq)]
 pub enum Decision {
     Stayed,
@@ -516,21 +532,24 @@ impl Lead {
     /// Hears, asks, moves at most once. The command is left as it came in, for
     /// the division.
     pub fn advance(&mut self, input: &Input, rating: &Rating) -> Decision {
-        self.hear(input.frames);
+        let heard = self.hear(input.frames);
         let decision = self.decide(input, rating);
         match decision {
             Decision::Stayed => self.age = self.age.saturating_add(1),
             Decision::Moved { to, .. } => self.move_to(to, rating),
-            Decision::Stopped { question, to, .. } => self.stop_into(to, question),
+            Decision::Stopped {
+                question, from, to, ..
+            } => self.stop_into(to, reason_of_no(question, from, heard.withdraws())),
         }
         decision
     }
 
     /// "Take frames (phases 1–8); silence becomes 0 if an H'102 counted, else
     /// grows by 1 to 255 at most." H'100 and H'101 are ignored from phase 2 on.
-    fn hear(&mut self, records: &[Record]) {
+    /// Given back is what this tick's frames say, nothing where none are taken.
+    fn hear(&mut self, records: &[Record]) -> Heard {
         if !matches!(self.phase, 1..=8) {
-            return;
+            return Heard::default();
         }
         let heard = frames::hear(records);
         if self.phase == 1 {
@@ -551,6 +570,7 @@ impl Lead {
             }
             None => self.silence = self.silence.saturating_add(1),
         }
+        heard
     }
 
     fn decide(&self, input: &Input, rating: &Rating) -> Decision {
@@ -588,9 +608,9 @@ impl Lead {
 
     /// "In 7 and 8 ... the reason recorded first remains, a 0 in a state handed
     /// in too."
-    fn stop_into(&mut self, phase: u8, question: u8) {
+    fn stop_into(&mut self, phase: u8, reason: u8) {
         if !matches!(self.phase, 7 | 8) {
-            self.reason = question;
+            self.reason = reason;
         }
         self.phase = phase;
         self.age = 0;

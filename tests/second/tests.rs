@@ -13,6 +13,7 @@ mod refusals;
 mod sessions;
 mod sharing;
 mod tenths;
+mod withdrawal;
 
 use crate::frames::{CONTACTOR_OPEN, ENABLED};
 use crate::inputs::LeadInput;

@@ -105,16 +105,21 @@ fn voltages_apart(mut scene: Scene, standing: &Standing, dice: &mut Dice) -> Sce
 }
 
 /// A no, and often another to the question asked before or after it or to any: the first in their
-/// order is the stop.
+/// order is the stop. 14 and 23 often get theirs together, as the reason is another then (2026-06),
+/// and a third beside them.
 pub fn no_and_more(question: u8, scene: Scene, standing: &Standing, dice: &mut Dice) -> Scene {
-    let scene = no(question, scene, standing, dice);
+    let mut scene = no(question, scene, standing, dice);
     let any = any_question(dice);
     let at = QUESTIONS.iter().position(|asked| asked.number == question);
     let beside = |step| QUESTIONS.get(at?.checked_add_signed(step)?);
-    let another = match dice.below(8) {
-        0 => beside(-1),
-        1 | 2 => beside(1),
-        3 => Some(any),
+    let another = match (dice.below(8), question) {
+        (0, _) => beside(-1),
+        (1 | 2, _) => beside(1),
+        (3, _) => Some(any),
+        (4..7, 14 | 23) => {
+            scene = no(14, no(23, scene, standing, dice), standing, dice);
+            Some(any)
+        }
         _ => None,
     };
     another.map_or(scene, |another| no(another.number, scene, standing, dice))

@@ -4,19 +4,19 @@ use mathlib.Core.Bool.{Bool, true, false, not, cond, _&&_, _||_}
 use mathlib.Core.List.{List, [], _∷_}
 use mathlib.Core.Logic.{_⊎_, inl, inr}
 use mathlib.Core.Path.{_≡_, refl}
-use Prim.Native.Nat.{ℕ, zero, suc, _+_, _-_, _≤_}
+use Prim.Native.Nat.{ℕ, zero, suc, _+_, _-_, _≤_, _<_}
 use native.Mathlib.Omega.{arith}
-use lib.Dec.{T, T-not, not-T, leb, ltb, eqb, eqb→eq}
+use lib.Dec.{T, T-not, not-T, leb, ltb, eqb, le→leb, eqb→eq}
 use borrow.Author.Tests.{ne-eqb}
 use lib.ListN.{getD}
-use lib.Ieee.Fits.{and-l, and-r}
+use lib.Ieee.Fits.{and-i, and-l, and-r}
 use Rattle.readings.specs.Readings.{atMost, insulated}
 use Rattle.frames.specs.Heard.{signalsOf}
 use Rattle.frames.specs.Times.{chargingTicks}
 use Rattle.common.specs.Tests.{between}
-use Rattle.lead.specs.Names.{noReason}
+use Rattle.lead.specs.Names.{noReason, permissionOpen, notEnabled}
 use Rattle.lead.specs.Figures.{mostVolts, mostAmperes, leastVolts, silenceEnd}
-use Rattle.lead.specs.Questions.{meterOf, thresholdNow, ticksAllowed, viewOf, once, questions, isNo, stopOf, firstNo, ask, reasonOf, noQuestion, gotNo, Question}
+use Rattle.lead.specs.Questions.{meterOf, thresholdNow, ticksAllowed, viewOf, once, questions, isNo, stopOf, firstNo, ask, reasonOf, noQuestion, verdict, gotNo, Question}
 use Rattle.lead.specs.Hearing.{hear}
 use Rattle.lead.specs.declared.state.Lead.{Lead}
 use Rattle.lead.specs.declared.state.HeardLead.{HeardLead}
@@ -27,14 +27,14 @@ use Rattle.lead.specs.declared.questions.View.{View}
 use Rattle.lead.specs.declared.questions.Verdict.{Verdict}
 use Rattle.lead.specs.declared.questions.Verdict.the-variants.{Pass, Urgent, Ordinary}
 use mir.Facts.{or-yes}
-use Rattle.common.proofs.Bools.{is-true, between-lo, upTo-at}
+use Rattle.common.proofs.Bools.{is-true, is-false, between-lo, upTo-at}
 use Rattle.lead.proofs.Phases.{isPass, isUrgent}
 
 -- the question at a place
-abbrev row : List Question → ℕ → Question
+abbrev pub row : List Question → ℕ → Question
 row rows j = getD rows j noQuestion
 
-abbrev everyRow : (Question → Bool) → List Question → Bool
+abbrev pub everyRow : (Question → Bool) → List Question → Bool
 everyRow f [] = true
 everyRow f (q ∷ rows) = f q && everyRow f rows
 
@@ -44,7 +44,7 @@ module _ (p : ℕ) where
 
   module _ (f : Verdict → Bool) where
     -- a no at some place: the verdict is the stop of a question up to there
-    no-gives : (rows : List Question) (j : ℕ) → T (isNo p (row rows j)) → ((i : ℕ) → i ≤ j → T (f (stopOf (row rows i)))) → T (f (firstNo p rows))
+    pub no-gives : (rows : List Question) (j : ℕ) → T (isNo p (row rows j)) → ((i : ℕ) → i ≤ j → T (f (stopOf (row rows i)))) → T (f (firstNo p rows))
     no-gives [] j t s = absurd (never t)
     no-gives (q ∷ rows) zero t s = rw (is-true (isNo p q) t) (s 0 (omega arith))
     no-gives (q ∷ rows) (suc j) t s = go (isNo p q) (no-gives rows j t (λ i h. s (suc i) (omega arith)))
@@ -53,14 +53,31 @@ module _ (p : ℕ) where
         go true r = s 0 (omega arith)
         go false r = r
 
-    -- a test that a pass and every stop meet
-    each-gives : (rows : List Question) → T (f Pass) → T (everyRow (λ q. f (stopOf q)) rows) → T (f (firstNo p rows))
+    -- a test that a pass meets, and the stop of every question that gets a no
+    abbrev pub met : Question → Bool
+    met q = f (stopOf q) || not (isNo p q)
+
+    pub each-gives : (rows : List Question) → T (f Pass) → T (everyRow met rows) → T (f (firstNo p rows))
     each-gives [] t s = t
-    each-gives (q ∷ rows) t s = go (isNo p q) (each-gives rows t (and-r (f (stopOf q)) (everyRow (λ q. f (stopOf q)) rows) s))
+    each-gives (q ∷ rows) t s =
+        go (isNo p q) (or-yes (f (stopOf q)) (not (isNo p q)) (and-l (met q) (everyRow met rows) s))
+        (each-gives rows t (and-r (met q) (everyRow met rows) s))
       where
-        go : (b : Bool) → T (f (firstNo p rows)) → T (f (cond b (stopOf q) (firstNo p rows)))
-        go true r = and-l (f (stopOf q)) (everyRow (λ q. f (stopOf q)) rows) s
-        go false r = r
+        go : (b : Bool) → T (f (stopOf q)) ⊎ T (not b) → T (f (firstNo p rows)) → T (f (cond b (stopOf q) (firstNo p rows)))
+        go true (inl y) r = y
+        go true (inr n) r = absurd n
+        go false y r = r
+
+  -- a no at some place and none before it: its stop
+  pub first-at :
+      (rows : List Question) (j : ℕ)
+      → ((i : ℕ) → i < j → T (isNo p (row rows i)) → ⊥)
+      → T (isNo p (row rows j))
+      → firstNo p rows ≡ stopOf (row rows j)
+  first-at [] j none t = absurd (never t)
+  first-at (q ∷ rows) zero none t = rw (is-true (isNo p q) t)
+  first-at (q ∷ rows) (suc j) none t =
+      rw (is-false (isNo p q) (none 0 (omega arith))) (first-at rows j (λ i x. none (suc i) (omega arith)) t)
 
 stop-stops : (q : Question) → T (not (isPass (stopOf q)))
 stop-stops q = go (q .urgent)
@@ -88,10 +105,19 @@ module _ (v : View) (h : HeardLead) where
   mild-yes : T (not (isUrgent (ask v h))) → (j : ℕ) → j ≤ 7 → T (isNo (h .lead .stage .phase) (row (questions v h) j)) → ⊥
   mild-yes t j x n = T-not (isUrgent (ask v h)) t (urgent-no j x n)
 
-  -- the reason of a verdict is 0 or that of a question
-  pub reason-known : T (eqb (reasonOf (ask v h)) noReason || between 11 29 (reasonOf (ask v h)))
+  -- the reason of a verdict is 0 or that of a question; of question 14 it is one of two
+  abbrev isKnown : ℕ → Bool
+  isKnown reason = eqb reason noReason || between 11 29 reason
+
+  pub reason-known : T (isKnown (reasonOf (ask v h)))
   unfolding ask questions
-  reason-known = each-gives (h .lead .stage .phase) (λ w. eqb (reasonOf w) noReason || between 11 29 (reasonOf w)) (questions v h) tt tt
+  reason-known =
+      each-gives (h .lead .stage .phase) (λ w. isKnown (reasonOf w)) (questions v h) tt
+      (go (between 2 6 (h .lead .stage .phase) && v .revoked) (isNo (h .lead .stage .phase) (row (questions v h) 3)))
+    where
+      go : (b n : Bool) → T ((isKnown (cond b notEnabled permissionOpen) || not n) && true)
+      go true n = tt
+      go false n = tt
 
 -- rows that are not asked in a phase give no stop
 abbrev unasked : ℕ → Question → Bool
@@ -167,27 +193,23 @@ unfolding hear
 threshold-kept c i s h = rw (ne-eqb (s .stage .phase) 1 (omega arith))
 
 module _ (c : Ratings) (i : Input) (s : Lead) where
-  -- the verdict of the tick
-  abbrev pub verdict : Verdict
-  verdict = ask (viewOf c i (hear i s)) (hear i s)
-
   -- the question at a place, as the tick asks it
   abbrev pub asked-row : ℕ → Question
   asked-row j = row (questions (viewOf c i (hear i s)) (hear i s)) j
 
-  urgent-said : T (not (isUrgent verdict)) → (j : ℕ) → j ≤ 7 → T (between (asked-row j .first) (asked-row j .last) (hear i s .lead .stage .phase)) → T (asked-row j .answer)
+  urgent-said : T (not (isUrgent (verdict c i s))) → (j : ℕ) → j ≤ 7 → T (between (asked-row j .first) (asked-row j .last) (hear i s .lead .stage .phase)) → T (asked-row j .answer)
   urgent-said t j k = asked-yes (hear i s .lead .stage .phase) (asked-row j) (mild-yes (viewOf c i (hear i s)) (hear i s) t j k)
 
-  said : T (isPass verdict) → (j : ℕ) → T (between (asked-row j .first) (asked-row j .last) (hear i s .lead .stage .phase)) → T (asked-row j .answer)
+  said : T (isPass (verdict c i s)) → (j : ℕ) → T (between (asked-row j .first) (asked-row j .last) (hear i s .lead .stage .phase)) → T (asked-row j .answer)
   said t j = asked-yes (hear i s .lead .stage .phase) (asked-row j) (pass-yes (viewOf c i (hear i s)) (hear i s) t j)
 
   -- the rows stand in the order of their numbers, from 11 on
-  pub in-order : (j : ℕ) → j ≤ 18 → asked-row j .reason ≡ 11 + j
+  pub in-order : (j : ℕ) → j ≤ 18 → asked-row j .number ≡ 11 + j
   unfolding questions
-  in-order j h = eqb→eq (asked-row j .reason) (11 + j) (upTo-at 18 (λ n. eqb (asked-row n .reason) (11 + n)) tt j h)
+  in-order j h = eqb→eq (asked-row j .number) (11 + j) (upTo-at 18 (λ n. eqb (asked-row n .number) (11 + n)) tt j h)
 
   -- what a tick without an urgent stop implies
-  pub urgent-yes : T (not (isUrgent verdict)) → UrgentYes c i s
+  pub urgent-yes : T (not (isUrgent (verdict c i s))) → UrgentYes c i s
   unfolding questions viewOf hear
   urgent-yes t =
       record {
@@ -202,7 +224,7 @@ module _ (c : Ratings) (i : Input) (s : Lead) where
       }
 
   -- what a tick without a stop implies
-  pub ordinary-yes : T (isPass verdict) → OrdinaryYes c i s (hear i s .lead .car)
+  pub ordinary-yes : T (isPass (verdict c i s)) → OrdinaryYes c i s (hear i s .lead .car)
   unfolding questions viewOf hear
   ordinary-yes t =
       record {
@@ -219,16 +241,23 @@ module _ (c : Ratings) (i : Input) (s : Lead) where
         charging-in-time = said t 18;
       }
 
+  -- a no at a place is one of the question whose number stands there
+  pub row-no : (j : ℕ) → T (isNo (s .stage .phase) (asked-row j)) → T (gotNo c i s (11 + j))
+  unfolding gotNo
+  row-no j t =
+      let same : 11 + j - 11 ≡ j = omega arith in
+      and-i (leb 11 (11 + j)) (isNo (s .stage .phase) (asked-row (11 + j - 11))) (le→leb 11 (11 + j) (omega arith)) (rw same t)
+
   -- a no, of whichever question, is a stop; of 11 to 18 an urgent one; and it is said in 1 to 8 only
   module _ (n : ℕ) (no : T (gotNo c i s n)) where
-    its-row : T (isNo (hear i s .lead .stage .phase) (asked-row (n - 11)))
+    pub its-row : T (isNo (hear i s .lead .stage .phase) (asked-row (n - 11)))
     unfolding gotNo hear
     its-row = and-r (leb 11 n) (isNo (s .stage .phase) (asked-row (n - 11))) no
 
-    pub no-is-stop : T (not (isPass verdict))
-    no-is-stop = not-T (isPass verdict) (λ t. pass-yes (viewOf c i (hear i s)) (hear i s) t (n - 11) its-row)
+    pub no-is-stop : T (not (isPass (verdict c i s)))
+    no-is-stop = not-T (isPass (verdict c i s)) (λ t. pass-yes (viewOf c i (hear i s)) (hear i s) t (n - 11) its-row)
 
-    pub no-is-urgent : n ≤ 18 → T (isUrgent verdict)
+    pub no-is-urgent : n ≤ 18 → T (isUrgent (verdict c i s))
     no-is-urgent h = urgent-no (viewOf c i (hear i s)) (hear i s) (n - 11) (omega arith) its-row
 
     pub no-in-1-8 : s .stage .phase ≤ 10 → T (between 1 8 (s .stage .phase))
@@ -237,4 +266,4 @@ module _ (c : Ratings) (i : Input) (s : Lead) where
       where
         go : (b : Bool) → between 1 8 (s .stage .phase) ≡ b → T b
         go true e = tt
-        go false e = T-not (isPass verdict) no-is-stop (rw (quiet (viewOf c i (hear i s)) (hear i s) p≤ (rw e tt)) tt)
+        go false e = T-not (isPass (verdict c i s)) no-is-stop (rw (quiet (viewOf c i (hear i s)) (hear i s) p≤ (rw e tt)) tt)

@@ -13,7 +13,7 @@ use Rattle.lead.specs.Names.{handshake, locking, noReason}
 use Rattle.lead.specs.Figures.{leastVolts}
 use Rattle.lead.specs.Leads.{blank, fresh}
 use Rattle.lead.specs.Hearing.{hear}
-use Rattle.lead.specs.Questions.{thresholdNow, viewOf, reasonOf}
+use Rattle.lead.specs.Questions.{thresholdNow, viewOf, reasonOf, verdict}
 use Rattle.lead.specs.Moves.{reasonAfter, decide}
 use Rattle.lead.specs.Power.{wanted, commanded}
 use Rattle.lead.specs.Good.{goodThreshold, goodLead}
@@ -26,7 +26,7 @@ use mir.Facts.{or-yes}
 use Rattle.common.proofs.Bools.{holds, or-r, mp, imp-of, is-false, between-of, between-lo}
 use Rattle.lead.proofs.Phases as phases
 use Rattle.lead.proofs.Phases.{isPass}
-use Rattle.lead.proofs.Answers.{verdict, OrdinaryYes, ordinary-yes, reason-known}
+use Rattle.lead.proofs.Answers.{OrdinaryYes, ordinary-yes, reason-known}
 use Rattle.lead.proofs.Ticks.{may, phaseAfter, start, MoveMet, move-met, decide-phase, started, WentOn, not-started}
 use Rattle.lead.proofs.Commands.{command-most, command-0, want-rated}
 

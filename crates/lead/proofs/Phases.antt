@@ -1,9 +1,12 @@
 -- Where each phase leads: each fact is one test, computed for every phase, verdict and move. Assumes nothing.
 use mathlib.Core.Bool.{Bool, true, false, not, _&&_, _||_}
+use mathlib.Core.Path.{_≡_, refl}
 use Prim.Native.Nat.{ℕ, _≤_}
 use lib.Dec.{T, leb, eqb}
 use lib.Ieee.Fits.{and-l, and-r}
 use Rattle.common.specs.Tests.{between}
+use Rattle.lead.specs.Names.{noReason}
+use Rattle.lead.specs.Questions.{reasonOf}
 use Rattle.lead.specs.Moves.{nextPhase}
 use Rattle.lead.specs.declared.questions.Verdict.{Verdict}
 use Rattle.lead.specs.declared.questions.Verdict.the-variants.{Pass, Urgent, Ordinary}
@@ -18,6 +21,16 @@ abbrev pub isUrgent : Verdict → Bool
 isUrgent Pass = false
 isUrgent (Urgent number) = true
 isUrgent (Ordinary number) = false
+
+pub pass-reason : (v : Verdict) → T (isPass v) → reasonOf v ≡ noReason
+pass-reason Pass t = refl
+pass-reason (Urgent number) t = absurd t
+pass-reason (Ordinary number) t = absurd t
+
+pub urgent-with : (v : Verdict) → T (isUrgent v) → v ≡ Urgent (reasonOf v)
+urgent-with Pass t = absurd t
+urgent-with (Urgent number) t = refl
+urgent-with (Ordinary number) t = absurd t
 
 -- a verdict of each kind, with the number n
 abbrev verdicts : ℕ → (Verdict → Bool) → Bool
@@ -145,7 +158,7 @@ pub from-7-10 : Everywhere from7-10
 unfolding nextPhase
 from-7-10 = everywhere from7-10 (λ n. tt)
 
--- a stop leads into 7 to 10, an urgent one into 9 and 10
+-- a stop leads into 7 to 10
 abbrev pub stopped : Test
 stopped p v may q = imp (between 1 8 p && not (isPass v)) (between 7 10 q)
 
@@ -153,9 +166,26 @@ pub stopped-into : Everywhere stopped
 unfolding nextPhase
 stopped-into = everywhere stopped (λ n. tt)
 
+-- an urgent one into neither 6 nor 7
 abbrev pub urgentlyStopped : Test
-urgentlyStopped p v may q = imp (between 1 8 p && isUrgent v) (between 9 10 q)
+urgentlyStopped p v may q = imp (isUrgent v) (not (between 6 7 q))
 
 pub urgent-into : Everywhere urgentlyStopped
 unfolding nextPhase
 urgent-into = everywhere urgentlyStopped (λ n. tt)
+
+-- out of 2 to 6 into 9 by an urgent stop, and by nothing else
+abbrev pub from2-6 : Test
+from2-6 p v may q = imp (between 2 6 p) (imp (isUrgent v) (eqb q 9) && imp (eqb q 9) (isUrgent v))
+
+pub from-2-6 : Everywhere from2-6
+unfolding nextPhase
+from-2-6 = everywhere from2-6 (λ n. tt)
+
+-- into 1 to 6 from there without a stop, or by the start
+abbrev pub into1-6 : Test
+into1-6 p v may q = imp (between 1 6 q) (between 1 6 p && isPass v || eqb p 0 && eqb q 1)
+
+pub into-1-6 : Everywhere into1-6
+unfolding nextPhase
+into-1-6 = everywhere into1-6 (λ n. tt)

@@ -9,19 +9,19 @@ use borrow.Author.Tests.{eq-eqb, ne-eqb}
 use Rattle.readings.specs.Readings.{atMost}
 use Rattle.frames.specs.Heard.{signalsOf}
 use Rattle.common.specs.Tests.{between}
-use Rattle.lead.specs.Names.{handshake, locking}
+use Rattle.lead.specs.Names.{handshake, locking, noReason}
 use Rattle.lead.specs.Leads.{blank}
 use Rattle.lead.specs.Hearing.{hear}
 use Rattle.lead.specs.Figures.{dischargedVolts, residualAmperes, rampDownEnd, weldCheckEnd}
-use Rattle.lead.specs.Questions.{meterOf, isPresent, thresholdNow, viewOf}
+use Rattle.lead.specs.Questions.{meterOf, isPresent, thresholdNow, viewOf, reasonOf, verdict}
 use Rattle.lead.specs.Moves.{moves, mayMove, nextPhase, reasonAfter, ageAfter, goOn, advance, decide}
 use Rattle.lead.specs.declared.state.Lead.{Lead}
 use Rattle.lead.specs.declared.state.HeardLead.{HeardLead}
 use Rattle.lead.specs.declared.state.Car.{Car}
 use Rattle.lead.specs.declared.state.Ratings.{Ratings}
 use Rattle.lead.specs.declared.state.Input.{Input}
-use Rattle.common.proofs.Bools.{holds}
-use Rattle.lead.proofs.Answers.{verdict}
+use Rattle.lead.specs.declared.questions.Verdict.{Verdict}
+use Rattle.common.proofs.Bools.{holds, below}
 
 module _ (c : Ratings) (i : Input) (s : Lead) where
   -- whether the tick may move, the phase after it, and whether it starts the lead
@@ -112,6 +112,15 @@ pub record WentOn (c : Ratings) (i : Input) (s : Lead) : Type 0 where
 pub not-started : (c : Ratings) (i : Input) (s : Lead) → start c i s ≡ false → WentOn c i s
 unfolding decide advance goOn hear viewOf
 not-started c i s e = record { car = rw e; command = rw e; energy = rw e; threshold = rw e; reason = rw e; age = rw e }
+
+-- up to phase 6 a lead that shows no reason yet shows that of the tick's verdict
+pub reason-shown : (p : ℕ) (v : Verdict) → p ≤ 6 → reasonAfter p noReason v ≡ reasonOf v
+unfolding reasonAfter
+reason-shown p v h = rw (below 7 8 p (omega arith)) (go (eqb (reasonOf v) noReason) refl)
+  where
+    go : (b : Bool) → eqb (reasonOf v) noReason ≡ b → cond b noReason (reasonOf v) ≡ reasonOf v
+    go true e = sym (eqb→eq (reasonOf v) noReason (holds e))
+    go false e = refl
 
 -- a lead that is past phase 0 is not started
 pub past-start : (c : Ratings) (i : Input) (s : Lead) → 1 ≤ s .stage .phase → start c i s ≡ false

@@ -11,7 +11,8 @@ use Rattle.frames.specs.Heard.{signalsOf}
 use Rattle.common.specs.Tests.{between}
 use Rattle.lead.specs.Figures.{mostEnergy}
 use Rattle.lead.specs.Hearing.{hear}
-use Rattle.lead.specs.Moves.{decide}
+use Rattle.lead.specs.Questions.{verdict}
+use Rattle.lead.specs.Moves.{reasonAfter, decide}
 use Rattle.lead.specs.Power.{wanted, commanded}
 use Rattle.lead.specs.declared.state.Lead.{Lead}
 use Rattle.lead.specs.declared.state.Stage.{Stage}
@@ -22,7 +23,7 @@ use Rattle.lead.specs.declared.questions.Verdict.{Verdict}
 use Rattle.common.proofs.Bools.{holds, is-true, imp, mp, between-of, between-lo, between-hi, at-or-past}
 use Rattle.lead.proofs.Phases as phases
 use Rattle.lead.proofs.Phases.{isPass, isUrgent}
-use Rattle.lead.proofs.Answers.{verdict, UrgentYes, OrdinaryYes, urgent-yes, ordinary-yes}
+use Rattle.lead.proofs.Answers.{UrgentYes, OrdinaryYes, urgent-yes, ordinary-yes}
 use Rattle.lead.proofs.Ticks.{may, phaseAfter, start, move-met, started, decide-phase, not-started, past-start}
 use Rattle.lead.proofs.Commands.{command-stage, command-threshold, command-car, command-energy, command-most, command-0, want-6, want-7}
 
@@ -161,6 +162,10 @@ module _ (c : Ratings) (i : Input) (s : Lead) (p≤ : s .stage .phase ≤ 10) wh
 
     pub ticked-car : 1 ≤ p → ticked c level i s .car ≡ hear i s .lead .car
     ticked-car h = command-car c level (decide c i s) ∙ not-started c i s (past-start c i s h) .car
+
+    pub ticked-reason : 1 ≤ p → ticked c level i s .stage .reason ≡ reasonAfter p (s .stage .reason) v
+    ticked-reason h =
+        ap (λ (x : Stage). x .reason) (command-stage c level (decide c i s)) ∙ not-started c i s (past-start c i s h) .reason
 
     -- 2026-01: a start zeroes the count, and every tick adds its command times the threshold
     pub ticked-energy :

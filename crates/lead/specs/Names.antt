@@ -39,7 +39,7 @@ finalDischarge = 9
 abbrev pub ended : ℕ
 ended = 10
 
--- Stop reasons: the number of the question that got a no, 0 for none.
+-- The numbers of the stop questions, which are the stop reasons; 0 for none.
 abbrev pub noReason : ℕ
 noReason = 0
 

@@ -12,6 +12,8 @@ use Rattle.readings.specs.declared.Judged.{Judged}
 use Rattle.readings.specs.declared.Judged.the-variants.{Good, Bad}
 use Rattle.frames.specs.Times.{chargingTicks}
 use Rattle.frames.specs.Heard.{signalsOf}
+use Rattle.frames.specs.declared.heard.StatusFrame.{StatusFrame}
+use Rattle.frames.specs.declared.heard.StatusFrame.the-variants.{Heard, Absent}
 use Rattle.lead.specs.Names.{handshake, noReason, emergencyButton, unplugged, groundFault, permissionOpen, badReading, overvoltage, overcurrent, unlocked, carSilent, carFault, incompatibleVoltage, notInPark, notEnabled, stopRequest, contactorOpen, stopButton, lowInsulation, phaseTimeout, chargingTimeOver}
 use Rattle.lead.specs.Figures.{mostVolts, mostAmperes, leastVolts, silenceEnd}
 use Rattle.lead.specs.Hearing.{hear}
@@ -33,6 +35,11 @@ abbrev pub isPresent : Reading → Bool
 isPresent (Value x) = true
 isPresent Missing = false
 
+-- 2026-06: "an H'102 counted in this tick with enabled clear"
+abbrev pub revokes : StatusFrame → Bool
+revokes (Heard sent) = not (signalsOf sent .enabled)
+revokes Absent = false
+
 -- "The threshold is the smaller of rated volts and maximum battery voltage. In phase 1 question 21 works it out"
 abbrev pub thresholdNow : Ratings → HeardLead → ℕ
 thresholdNow c heard =
@@ -50,6 +57,7 @@ viewOf c i heard =
       contacts = i .contacts;
       meter = meterOf (i .reading);
       signals = signalsOf (heard .lead .car .status .value);
+      revoked = revokes (i .status);
       rated = c .amperes;
       threshold = thresholdNow c heard;
       present = isPresent (i .insulation);
@@ -58,20 +66,34 @@ viewOf c i heard =
       time = chargingTicks (heard .lead .car .time .value);
     }
 
--- A question: the reason that a no gives, whether its stop is urgent, the first and the last phase in which it is asked, and whether the
--- answer is yes.
+-- A question: its number, whether its stop is urgent, the first and the last phase in which it is asked, whether the answer is yes, and the
+-- reason that a no gives.
 pub record Question : Type 0 where
-  pub reason : ℕ
+  pub number : ℕ
   pub urgent : Bool
   pub first : ℕ
   pub last : ℕ
   pub answer : Bool
+  pub reason : ℕ
 
+-- the reason is the question's number
 abbrev pub urgentRow : ℕ → ℕ → ℕ → Bool → Question
-urgentRow reason first last answer = record { reason = reason; urgent = true; first = first; last = last; answer = answer }
+urgentRow number first last answer =
+    record { number = number; urgent = true; first = first; last = last; answer = answer; reason = number }
 
 abbrev pub ordinaryRow : ℕ → ℕ → ℕ → Bool → Question
-ordinaryRow reason first last answer = record { reason = reason; urgent = false; first = first; last = last; answer = answer }
+ordinaryRow number first last answer =
+    record { number = number; urgent = false; first = first; last = last; answer = answer; reason = number }
+
+-- a row whose no gives this reason
+abbrev pub giving : ℕ → Question → Question
+giving reason q =
+    record { number = q .number; urgent = q .urgent; first = q .first; last = q .last; answer = q .answer; reason = reason }
+
+-- 2026-06: "In phases 2 to 6, with … permission open and an H'102 counted in this tick with enabled clear, the reason is 23 and no longer
+-- 14; nothing else changes." It is what question 14's no gives, which is asked behind "questions 11–13".
+abbrev pub openedReason : ℕ → Bool → ℕ
+openedReason p revoked = cond (between 2 6 p && revoked) notEnabled permissionOpen
 
 -- "once H'100 and H'102 are seen"
 abbrev pub once : Bool → Bool → Bool
@@ -87,8 +109,8 @@ questions v heard =
     ∷ urgentRow unplugged 1 8 (v .contacts .plug)
     -- "13 No leak trip? (1–8)"
     ∷ urgentRow groundFault 1 8 (not (v .contacts .leakage))
-    -- "14 Permission closed? (2–7)"
-    ∷ urgentRow permissionOpen 2 7 (v .contacts .permission)
+    -- "14 Permission closed? (2–7)"; where the car's H'102 of the tick says no too its no gives 23 (2026-06)
+    ∷ giving (openedReason (s .stage .phase) (v .revoked)) (urgentRow permissionOpen 2 7 (v .contacts .permission))
     -- "15 Reading good? (3–7)"
     ∷ urgentRow badReading 3 7 (v .meter .good)
     -- "16 Connector volts at most the threshold? (5–7)"
@@ -153,6 +175,10 @@ reasonOf (Ordinary reason) = reason
 -- past the last question: one that never gets a no
 abbrev pub noQuestion : Question
 noQuestion = ordinaryRow noReason 0 0 true
+
+-- the verdict of a tick, by the lead before it
+abbrev pub verdict : Ratings → Input → Lead → Verdict
+verdict c i s = ask (viewOf c i (hear i s)) (hear i s)
 
 -- question n is asked in the tick and gets a no
 unfoldable pub gotNo : Ratings → Input → Lead → ℕ → Bool

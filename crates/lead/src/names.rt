@@ -30,7 +30,7 @@ impl Phase {
     pub const ENDED: u8 = 10;
 }
 
-// The number of the stop question that got a no.
+// The numbers of the stop questions, which are the stop reasons.
 pub struct Reason;
 
 impl Reason {

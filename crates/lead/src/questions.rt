@@ -7,6 +7,7 @@ use super::state::Contacts;
 use super::state::HeardLead;
 use super::state::Input;
 use super::state::Ratings;
+use frames::StatusFrame;
 use frames::VehicleSignals;
 use readings::Judged;
 use readings::Reading;
@@ -18,7 +19,7 @@ ghost use lib.ListN.{getD};
 ghost use Rattle.common.specs.Tests.{between};
 ghost use Rattle.readings.specs.Readings.{atMost};
 ghost use Rattle.lead.specs.Figures.{mostVolts, mostAmperes, dischargedVolts, residualAmperes};
-ghost use Rattle.lead.specs.Questions.{meterOf, isPresent, thresholdNow, ticksAllowed, viewOf, questionsFrom, firstNo, ask, reasonOf};
+ghost use Rattle.lead.specs.Questions.{meterOf, isPresent, revokes, thresholdNow, ticksAllowed, viewOf, openedReason, questionsFrom, firstNo, ask, reasonOf};
 
 // The figures of a good reading.
 pub struct Meter {
@@ -27,13 +28,14 @@ pub struct Meter {
     pub amperes: Tenths,
 }
 
-// What the questions and the moves look at beside the lead's own numbers: contacts, meter, what H'102's bits say, rated
-// amperes, the threshold voltage (worked out in phase 1, kept in the later ones), whether an insulation resistance is present
-// and high enough, the ticks allowed in the phase, and the charging time in ticks.
+// What the questions and the moves look at beside the lead's own numbers: contacts, meter, what the bits of the newest H'102 say,
+// whether this tick's own took enabled back, rated amperes, the threshold voltage (worked out in phase 1, kept in the later ones),
+// whether an insulation resistance is present and high enough, the ticks allowed in the phase, and the charging time in ticks.
 pub struct View {
     pub contacts: Contacts,
     pub meter: Meter,
     pub signals: VehicleSignals,
+    pub revoked: bool,
     pub rated: u8,
     pub threshold: u16,
     pub present: bool,
@@ -125,6 +127,16 @@ fn is_present(insulation: Reading) -> bool
     }
 }
 
+// Whether an H'102 counts in this tick, and has enabled clear (2026-06).
+fn is_revoking(frame: StatusFrame) -> bool
+    ensures { λ r. ⌜ r ≡ revokes frame ⌝ }
+{
+    match frame {
+        StatusFrame::Heard(status) => !status.signals().enabled,
+        StatusFrame::Absent => false,
+    }
+}
+
 // Question 28, by phase.
 fn ticks_allowed(phase: u8) -> u32
     ensures { λ r. ⌜ r ≡ getD ticksAllowed phase 0 ⌝ }
@@ -146,6 +158,16 @@ fn is_no(phase: u8, first: u8, last: u8, answer: bool) -> bool
     (first <= phase) & (phase <= last) & !answer
 }
 
+// The reason that question 14's no gives: that of 23 where the car's message of this tick says no too (2026-06).
+fn opened_reason(phase: u8, revoked: bool) -> u8
+    ensures { λ r. ⌜ r ≡ openedReason phase revoked ⌝ }
+{
+    if (2 <= phase) & (phase <= 6) & revoked {
+        return Reason::NOT_ENABLED;
+    }
+    Reason::PERMISSION_OPEN
+}
+
 impl HeardLead {
     fn threshold_now(self, ratings: Ratings) -> u16
         ensures { λ r. ⌜ r ≡ thresholdNow ratings self ⌝ }
@@ -162,6 +184,7 @@ impl HeardLead {
         let contacts = input.contacts;
         let reading = input.reading;
         let insulation = input.insulation;
+        let frame = input.status;
         let status = self.lead.car.status.value;
         let time = self.lead.car.time.value;
         let threshold = self.threshold_now(ratings);
@@ -169,6 +192,7 @@ impl HeardLead {
             contacts,
             meter: Meter::from_reading(reading),
             signals: status.signals(),
+            revoked: is_revoking(frame),
             rated: ratings.amperes,
             threshold,
             present: is_present(insulation),
@@ -195,7 +219,7 @@ impl HeardLead {
             return Verdict::Urgent(Reason::GROUND_FAULT);
         }
         if is_no(p, 2, 7, contacts.permission) {
-            return Verdict::Urgent(Reason::PERMISSION_OPEN);
+            return Verdict::Urgent(opened_reason(p, view.revoked));
         }
         if is_no(p, 3, 7, meter.good) {
             return Verdict::Urgent(Reason::BAD_READING);

@@ -44,7 +44,11 @@ module _ (c : Ratings) (level : ℕ) (lock : Bool) (reading : Judged) (s : Lead)
         sent-length (s .stage .phase) (reportBytes (reportOf lock reading s)) report-length,
       )
 
-  -- byte 2 of the output is the command
+  -- byte 1 of the output is the reason, byte 2 the command
+  pub output-reason : byteAt (outputOf c level lock reading s) 1 ≡ s .stage .reason
+  unfolding outputOf shownBytes
+  output-reason = refl
+
   pub output-command : byteAt (outputOf c level lock reading s) 2 ≡ s .command
   unfolding outputOf shownBytes
   output-command = refl

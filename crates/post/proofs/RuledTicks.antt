@@ -18,7 +18,7 @@ use Rattle.lead.specs.declared.state.Lead.{Lead}
 use Rattle.lead.proofs.Goodness.{good-stays}
 use Rattle.lead_records.specs.States.{encode}
 use Rattle.lead_records.specs.Outputs.{outputSize}
-use Rattle.lead_records.proofs.Shown.{output-length, output-command, output-threshold, output-offer}
+use Rattle.lead_records.proofs.Shown.{output-length, output-reason, output-command, output-threshold, output-offer}
 use Rattle.post.specs.Heads.{headSize, headOf, headBytes, outputPart}
 use Rattle.post.specs.Rules.{TickInput, tickInput, inputAt, decidedAt, wantAfter, levelAfter, leadAfter, shownAt, shownAfter, postBytes}
 use Rattle.post.specs.Refusals.{goodPost, inputRows, tickRows}
@@ -108,7 +108,10 @@ module _ (h : Head) (i : TickInput) (leads : ℕ → Lead) (k : ℕ) (below : k 
   shown-part =
       part-joined outputSize (λ j. shownAt h i leads j) (λ j. output-length (h .ratings) _ _ _ _) [] 0 (h .leads) k refl below
 
-  -- byte 2 is its command
+  -- byte 1 is its reason, byte 2 its command
+  pub shown-reason : byteAt (outputPart (shownAfter h i leads) k) 1 ≡ leadAfter h i leads k .stage .reason
+  shown-reason = ap (λ (b : List ℕ). byteAt b 1) shown-part ∙ output-reason (h .ratings) _ _ _ _
+
   pub shown-command : byteAt (outputPart (shownAfter h i leads) k) 2 ≡ leadAfter h i leads k .command
   shown-command = ap (λ (b : List ℕ). byteAt b 2) shown-part ∙ output-command (h .ratings) _ _ _ _
 

@@ -12,7 +12,8 @@ use Rattle.safety.specs.Demand3.{commandAt, leadsBefore, thresholdAt, co
 use Rattle.safety.proofs.Closed.{stayed-closed}
 use Rattle.safety.proofs.Raises.{raises-only}
 use Rattle.safety.proofs.Shares.{allowance, share, equal-part}
-use Rattle.safety.proofs.Zeros.{FallsSilent, silent-at-once, silent-later, stays-silent}
+use Rattle.safety.proofs.Zeros.{FallsSilent, cut-off, silent-at-once, silent-later, stays-silent}
+use Rattle.safety.proofs.Withdrawals.{stops-urgently, gets-no}
 
 -- of what setup accepts, only the bound on rated amperes is used
 module _
@@ -44,6 +45,8 @@ module _
             (allowance h ticks t);
         share = λ t k x y w. rw (shown t k x y) (share h ticks t k _ (omega (arith, equal-part h ticks t)));
         zero-at-once = λ t k n x y u said. zeroed t t k y (silent-at-once h ticks k t n said u);
+        zero-at-urgent-stop = λ t k reason x y stop. zeroed t t k y (cut-off h ticks k t (rw stop tt));
+        withdrawal-is-urgent = λ t k x y w. (stops-urgently h ticks t k w, gets-no h ticks t k w);
         zero-by-the-20th = λ t k n x y said. zeroed t _ k y (silent-later h ticks k t n said _ (omega arith));
         stays-zero =
             λ t k n x y said u v a z b w.

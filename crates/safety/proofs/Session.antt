@@ -1,10 +1,17 @@
--- The sessions, computed: phase, reason and command of two leads; phase, command and count of one; what two leads want, get and are offered.
--- Assumes nothing.
+-- The sessions, computed: phase, reason and command of two leads; phase, command and count of one; what two leads want, get and are offered;
+-- phase, reason and command of three leads that their cars end. Assumes nothing.
+use mathlib.Core.Bool.{Bool, not}
 use mathlib.Core.List.{[], _∷_}
 use mathlib.Core.Path.{_≡_, refl}
+use Prim.Native.Nat.{ℕ}
+use lib.Dec.{T-not}
+use Rattle.common.proofs.Bools.{between-hi, upTo-at}
+use Rattle.lead.specs.Questions.{gotNo}
+use Rattle.post.specs.Rules.{inputAt}
 use Rattle.post.specs.All.{postRules}
 use Rattle.safety.specs.Lists.{outcome, ticksOf, stretchesOf}
-use Rattle.safety.specs.Session.{session, twice, played, playedTwice, offersFrom}
+use Rattle.safety.specs.Demand3.{inputsAt, leadsBefore, Withdraws}
+use Rattle.safety.specs.Session.{session, twice, withdrawal, played, playedTwice, playedWithdrawal, withdrawalHead, withdrawalTicks, offersFrom}
 
 pub session-shows :
     played
@@ -95,3 +102,45 @@ pub offers-show :
     ∷ [])
 unfolding session ticksOf postRules
 offers-show = refl
+
+pub withdrawal-shows :
+    playedWithdrawal
+    ≡ ((
+    (1 ∷ 0 ∷ 0 ∷ 1 ∷ 0 ∷ 0 ∷ 1 ∷ 0 ∷ 0 ∷ [])
+    ∷ (2 ∷ 0 ∷ 0 ∷ 2 ∷ 0 ∷ 0 ∷ 2 ∷ 0 ∷ 0 ∷ [])
+    ∷ (3 ∷ 0 ∷ 0 ∷ 3 ∷ 0 ∷ 0 ∷ 3 ∷ 0 ∷ 0 ∷ [])
+    ∷ (4 ∷ 0 ∷ 0 ∷ 4 ∷ 0 ∷ 0 ∷ 4 ∷ 0 ∷ 0 ∷ [])
+    ∷ (5 ∷ 0 ∷ 0 ∷ 5 ∷ 0 ∷ 0 ∷ 5 ∷ 0 ∷ 0 ∷ [])
+    -- they charge
+    ∷ (6 ∷ 0 ∷ 2 ∷ 6 ∷ 0 ∷ 2 ∷ 6 ∷ 0 ∷ 2 ∷ [])
+    ∷ (6 ∷ 0 ∷ 4 ∷ 6 ∷ 0 ∷ 4 ∷ 6 ∷ 0 ∷ 4 ∷ [])
+    ∷ (6 ∷ 0 ∷ 6 ∷ 6 ∷ 0 ∷ 6 ∷ 6 ∷ 0 ∷ 6 ∷ [])
+    ∷ (6 ∷ 0 ∷ 8 ∷ 6 ∷ 0 ∷ 8 ∷ 6 ∷ 0 ∷ 8 ∷ [])
+    ∷ (6 ∷ 0 ∷ 10 ∷ 6 ∷ 0 ∷ 10 ∷ 6 ∷ 0 ∷ 10 ∷ [])
+    ∷ (6 ∷ 0 ∷ 12 ∷ 6 ∷ 0 ∷ 12 ∷ 6 ∷ 0 ∷ 12 ∷ [])
+    -- the first and the second are cut off at 12 A, with 23 and with 14; the third, with 23 too, ramps down
+    ∷ (9 ∷ 23 ∷ 0 ∷ 9 ∷ 14 ∷ 0 ∷ 7 ∷ 23 ∷ 2 ∷ [])
+    -- whatever comes, nothing is commanded any more
+    ∷ (10 ∷ 23 ∷ 0 ∷ 10 ∷ 14 ∷ 0 ∷ 7 ∷ 23 ∷ 0 ∷ [])
+    -- they are unplugged, the third in its ramp; the first two are started anew
+    ∷ (0 ∷ 23 ∷ 0 ∷ 0 ∷ 14 ∷ 0 ∷ 9 ∷ 23 ∷ 0 ∷ [])
+    ∷ (1 ∷ 0 ∷ 0 ∷ 1 ∷ 0 ∷ 0 ∷ 9 ∷ 23 ∷ 0 ∷ [])
+    ∷ [])
+    ∷ [])
+unfolding withdrawal outcome ticksOf stretchesOf postRules
+withdrawal-shows = refl
+
+-- in the tick that cuts the first lead off, its questions by their numbers
+abbrev got-no : ℕ → Bool
+got-no = gotNo (withdrawalHead .ratings) (inputAt withdrawalHead (inputsAt withdrawalHead withdrawalTicks 11) 0) (leadsBefore withdrawalHead withdrawalTicks 11 0)
+
+-- the request's conditions hold there
+pub withdraws-there : Withdraws withdrawalHead withdrawalTicks 11 0
+unfolding withdrawal ticksOf postRules
+withdraws-there =
+    record {
+      phases = tt;
+      passed = λ n asked. T-not (got-no n) (upTo-at 13 (λ m. not (got-no m)) tt n (between-hi 11 13 n asked));
+      opened = tt;
+      said = tt;
+    }

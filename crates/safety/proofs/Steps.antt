@@ -1,29 +1,32 @@
 -- What one tick does to one lead of the trace, from the laws of `lead`. Assumes nothing.
-use mathlib.Core.Bool.{Bool, true, false}
+use mathlib.Core.Bool.{Bool, true, false, _&&_, _||_}
 use mathlib.Core.List.{List}
 use mathlib.Core.Logic.{_⊎_, inl, inr}
 use mathlib.Core.Path.{_≡_, refl, sym, subst, ap, _∙_}
 use Prim.Native.Nat.{ℕ, zero, suc, _-_, _≤_, _<_, min}
 use native.Mathlib.Omega.{arith}
-use lib.Dec.{T}
+use lib.Dec.{T, eqb, eqb→eq}
+use lib.Ieee.Fits.{and-l, and-r}
+use mir.Facts.{or-yes}
 use Rattle.common.specs.Tests.{between}
 use Rattle.lead.specs.Hearing.{hear}
 use Rattle.lead.specs.Leads.{blank}
-use Rattle.lead.specs.Moves.{decide}
+use Rattle.lead.specs.Names.{noReason}
+use Rattle.lead.specs.Questions.{reasonOf}
+use Rattle.lead.specs.Moves.{reasonAfter, decide}
 use Rattle.lead.specs.declared.state.Lead.{Lead}
 use Rattle.lead.specs.declared.state.Car.{Car}
 use Rattle.lead.specs.declared.state.Input.{Input}
-use Rattle.lead.specs.declared.questions.Verdict.{Verdict}
-use Rattle.common.proofs.Bools.{between-of, between-lo, between-hi, at-or-past}
-use Rattle.lead.proofs.Phases.{Test, Everywhere}
-use Rattle.lead.proofs.Answers.{verdict}
-use Rattle.lead.proofs.Ticks.{may, phaseAfter, started}
-use Rattle.lead.proofs.Commands.{command-car}
+use Rattle.lead.specs.declared.state.Stage.{Stage}
+use Rattle.common.proofs.Bools.{mp, between-of, between-lo, between-hi, at-or-past}
+use Rattle.lead.proofs.Phases.{isPass, Test, Everywhere, into1-6, into-1-6, pass-reason}
+use Rattle.lead.proofs.Ticks.{may, phaseAfter, started, reason-shown}
+use Rattle.lead.proofs.Commands.{command-stage, command-car}
 use Rattle.lead.proofs.WholeTicks as whole
 use Rattle.post.specs.Rules.{inputAt, decidedAt, levelAfter, leadAfter}
 use Rattle.post.specs.declared.head.Head.{Head}
 use Rattle.safety.specs.Lists.{Tick}
-use Rattle.safety.specs.Demand3.{inputsAt, leadsBefore}
+use Rattle.safety.specs.Demand3.{inputsAt, leadsBefore, verdictAt}
 
 -- a fact of every tick before t, and of t
 pub one-more : {P : ℕ → Type 0} (t : ℕ) → ((u : ℕ) → u < t → P u) → P t → (u : ℕ) → u < suc t → P u
@@ -52,9 +55,6 @@ module _ (h : Head) (ticks : List Tick) (k : ℕ) where
   abbrev pub heardCar : ℕ → Car
   heardCar t = hear (input t) (lead t) .lead .car
 
-  abbrev pub verdictAt : ℕ → Verdict
-  verdictAt t = verdict (h .ratings) (input t) (lead t)
-
   abbrev pub mayMoveAt : ℕ → Bool
   mayMoveAt t = may (h .ratings) (input t) (lead t)
 
@@ -74,20 +74,58 @@ module _ (h : Head) (ticks : List Tick) (k : ℕ) where
   phase-is t = whole.ticked-phase (h .ratings) (input t) (lead t) (phase-most t) (levelAt h ticks t)
 
   -- what holds of every phase, verdict and move holds in every tick
-  pub in-tick : (f : Test) → Everywhere f → (t : ℕ) → T (f (phase t) (verdictAt t) (mayMoveAt t) (phase (suc t)))
-  in-tick f law t = rw (phase-is t) (law (phase t) (phase-most t) (verdictAt t) (mayMoveAt t))
+  pub in-tick : (f : Test) → Everywhere f → (t : ℕ) → T (f (phase t) (verdictAt h ticks t k) (mayMoveAt t) (phase (suc t)))
+  in-tick f law t = rw (phase-is t) (law (phase t) (phase-most t) (verdictAt h ticks t k) (mayMoveAt t))
 
   -- a lead that the tick does not start keeps what it has heard
   pub car-kept : (t : ℕ) → 1 ≤ phase t → lead (suc t) .car ≡ heardCar t
   unfolding leadAfter decidedAt
   car-kept t = whole.ticked-car (h .ratings) (input t) (lead t) (phase-most t) (levelAt h ticks t)
 
-  -- one that it starts knows nothing
+  -- one that it starts shows no reason and knows nothing
+  stage-blank : (t : ℕ) → phase t ≡ 0 → phase (suc t) ≡ 1 → lead (suc t) .stage ≡ blank 1 .stage
+  unfolding leadAfter decidedAt
+  stage-blank t e f =
+      command-stage (h .ratings) (levelAt h ticks t) (decide (h .ratings) (input t) (lead t))
+      ∙ ap (λ (x : Lead). x .stage) (started (h .ratings) (input t) (lead t) e (sym (phase-is t) ∙ f))
+
   pub car-blank : (t : ℕ) → phase t ≡ 0 → phase (suc t) ≡ 1 → lead (suc t) .car ≡ blank 1 .car
   unfolding leadAfter decidedAt
   car-blank t e f =
       command-car (h .ratings) (levelAt h ticks t) (decide (h .ratings) (input t) (lead t))
       ∙ ap (λ (x : Lead). x .car) (started (h .ratings) (input t) (lead t) e (sym (phase-is t) ∙ f))
+
+  -- in phases 1 to 6 a lead shows no reason before a tick, and after it that of the verdict
+  reason-of : (t : ℕ) → T (between 1 6 (phase t)) → lead t .stage .reason ≡ noReason → lead (suc t) .stage .reason ≡ reasonOf (verdictAt h ticks t k)
+  unfolding leadAfter decidedAt
+  reason-of t w none =
+      whole.ticked-reason (h .ratings) (input t) (lead t) (phase-most t) (levelAt h ticks t) (between-lo 1 6 (phase t) w)
+      ∙ ap (λ (r : ℕ). reasonAfter (phase t) r (verdictAt h ticks t k)) none
+      ∙ reason-shown (phase t) (verdictAt h ticks t k) (between-hi 1 6 (phase t) w)
+
+  no-reason : (t : ℕ) → T (between 1 6 (phase t)) → lead t .stage .reason ≡ noReason
+  no-reason zero w = absurd w
+  no-reason (suc t) w =
+      go
+      (or-yes (between 1 6 (phase t) && isPass (verdictAt h ticks t k)) (eqb (phase t) 0 && eqb (phase (suc t)) 1)
+      (mp (between 1 6 (phase (suc t))) (between 1 6 (phase t) && isPass (verdictAt h ticks t k) || eqb (phase t) 0 && eqb (phase (suc t)) 1)
+      (in-tick into1-6 into-1-6 t) w))
+      (no-reason t)
+    where
+      go :
+          T (between 1 6 (phase t) && isPass (verdictAt h ticks t k)) ⊎ T (eqb (phase t) 0 && eqb (phase (suc t)) 1)
+          → (T (between 1 6 (phase t)) → lead t .stage .reason ≡ noReason)
+          → lead (suc t) .stage .reason ≡ noReason
+      go (inl passed) before =
+          let on : T (between 1 6 (phase t)) = and-l (between 1 6 (phase t)) (isPass (verdictAt h ticks t k)) passed in
+          reason-of t on (before on) ∙ pass-reason (verdictAt h ticks t k) (and-r (between 1 6 (phase t)) (isPass (verdictAt h ticks t k)) passed)
+      go (inr began) before =
+          ap (λ (x : Stage). x .reason)
+          (stage-blank t (eqb→eq (phase t) 0 (and-l (eqb (phase t) 0) (eqb (phase (suc t)) 1) began))
+          (eqb→eq (phase (suc t)) 1 (and-r (eqb (phase t) 0) (eqb (phase (suc t)) 1) began)))
+
+  pub reason-is : (t : ℕ) → T (between 1 6 (phase t)) → lead (suc t) .stage .reason ≡ reasonOf (verdictAt h ticks t k)
+  reason-is t w = reason-of t w (no-reason t w)
 
   -- outside 6 and 7 the command is 0
   pub unpowered : (t : ℕ) → (T (between 6 7 (phase (suc t))) → ⊥) → command t ≡ 0

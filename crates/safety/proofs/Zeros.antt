@@ -7,7 +7,7 @@ use mathlib.Core.Path.{_≡_, sym, subst}
 use Prim.Native.Nat.{ℕ, zero, suc, _+_, _-_, _*_, _≤_, _<_}
 use native.Mathlib.Decide.{ℕ-discrete, le-ind}
 use native.Mathlib.Omega.{arith}
-use lib.Dec.{T, eqb, eqb→eq}
+use lib.Dec.{T, T-not, eqb, eqb→eq}
 use lib.Ieee.Fits.{and-i, and-l, and-r}
 use borrow.Author.Tests.{eq-eqb}
 use mir.Facts.{or-yes}
@@ -19,9 +19,9 @@ use Rattle.lead.proofs.Ticks.{move-met}
 use Rattle.lead_records.proofs.Shown.{input-contacts}
 use Rattle.post.specs.declared.head.Head.{Head}
 use Rattle.safety.specs.Lists.{Tick}
-use Rattle.safety.specs.Demand3.{isUrgentQuestion, phaseBefore, NoAt, Moves, contactsAt, StartedAnew}
+use Rattle.safety.specs.Demand3.{isUrgentQuestion, phaseBefore, NoAt, verdictAt, Moves, contactsAt, StartedAnew}
 use Rattle.safety.proofs.Steps as steps
-use Rattle.safety.proofs.Steps.{lead, input, mayMoveAt, verdictAt, phase-most, in-tick, unpowered, asked, falls}
+use Rattle.safety.proofs.Steps.{lead, input, mayMoveAt, phase-most, in-tick, unpowered, asked, falls}
 
 module _ (h : Head) (ticks : List Tick) (k : ℕ) where
   abbrev phase : ℕ → ℕ
@@ -152,6 +152,19 @@ module _ (h : Head) (ticks : List Tick) (k : ℕ) where
       go (yes six) r = omega (arith, asked h ticks k t six)
       go (no not-6) r = omega (arith, falls h ticks k t not-6)
 
+  -- an urgent stop in tick t, whatever its reason
+  pub cut-off : (t : ℕ) → T (isUrgent (verdictAt h ticks t k)) → FallsSilent t t
+  cut-off t urgent =
+      record {
+        tick = t;
+        from = omega arith;
+        by = omega arith;
+        zeroed =
+            unpowered h ticks k t
+            (T-not (between 6 7 (phase (suc t)))
+            (mp (isUrgent (verdictAt h ticks t k)) (not (between 6 7 (phase (suc t)))) (in-tick h ticks k urgentlyStopped urgent-into t) urgent));
+      }
+
   -- a no in tick t
   module _ (t n : ℕ) (said : NoAt h ticks t k n) where
     began : T (between 1 8 (phase t))
@@ -160,9 +173,9 @@ module _ (h : Head) (ticks : List Tick) (k : ℕ) where
     stops : Down t t
     stops =
         ending
-        (mp (between 1 8 (phase t) && not (isPass (verdictAt h ticks k t))) (between 7 10 (phase (suc t)))
+        (mp (between 1 8 (phase t) && not (isPass (verdictAt h ticks t k))) (between 7 10 (phase (suc t)))
         (in-tick h ticks k stopped stopped-into t)
-        (and-i (between 1 8 (phase t)) (not (isPass (verdictAt h ticks k t))) began
+        (and-i (between 1 8 (phase t)) (not (isPass (verdictAt h ticks t k))) began
         (no-is-stop (h .ratings) (input h ticks k t) (lead h ticks k t) n said)))
 
     -- from each tick with 0 on until the lead is started anew
@@ -179,17 +192,7 @@ module _ (h : Head) (ticks : List Tick) (k : ℕ) where
 
     pub silent-at-once : T (isUrgentQuestion n) → FallsSilent t t
     silent-at-once u =
-        let past-8 : T (between 9 10 (phase (suc t))) =
-        mp (between 1 8 (phase t) && isUrgent (verdictAt h ticks k t)) (between 9 10 (phase (suc t)))
-        (in-tick h ticks k urgentlyStopped urgent-into t)
-        (and-i (between 1 8 (phase t)) (isUrgent (verdictAt h ticks k t)) began
-        (no-is-urgent (h .ratings) (input h ticks k t) (lead h ticks k t) n said (between-hi 11 18 n u))) in
-        record {
-          tick = t;
-          from = omega arith;
-          by = omega arith;
-          zeroed = unpowered h ticks k t (λ w. omega (arith, between-lo 9 10 (phase (suc t)) past-8, between-hi 6 7 (phase (suc t)) w));
-        }
+        cut-off t (no-is-urgent (h .ratings) (input h ticks k t) (lead h ticks k t) n said (between-hi 11 18 n u))
 
     -- 10 A a tick, from the rating down; or unplugged sooner, and then 0 in the tick that unplugs
     pub silent-later : (ticks-later : ℕ) → h .ratings .amperes ≤ 10 * (ticks-later + 1) → FallsSilent t (t + ticks-later)

@@ -13,10 +13,13 @@ use Rattle.frames.specs.declared.heard.StatusFrame.{StatusFrame}
 use Rattle.frames.specs.declared.heard.StatusFrame.the-variants.{Heard, Absent}
 use Rattle.frames.specs.declared.heard.VehicleStatus.{VehicleStatus}
 use Rattle.sharing.specs.Level.{sum, equalPart}
+use Rattle.lead.specs.Names.{permissionOpen, notEnabled}
 use Rattle.lead.specs.Leads.{fresh}
-use Rattle.lead.specs.Questions.{gotNo}
+use Rattle.lead.specs.Questions.{revokes, verdict, gotNo}
 use Rattle.lead.specs.declared.state.Lead.{Lead}
 use Rattle.lead.specs.declared.state.Contacts.{Contacts}
+use Rattle.lead.specs.declared.questions.Verdict.{Verdict}
+use Rattle.lead.specs.declared.questions.Verdict.the-variants.{Urgent}
 use Rattle.lead_records.specs.Inputs.{contactsOf, frameRecords}
 use Rattle.post.specs.Heads.{outputPart}
 use Rattle.post.specs.Rules.{TickInput, tickInput, inputAt, wantAfter, leadAfter}
@@ -71,6 +74,14 @@ module _ (h : Head) (ticks : List Tick) where
   -- question n is asked in the tick and gets a no
   abbrev pub NoAt : ℕ → ℕ → ℕ → Type 0
   NoAt t k n = T (gotNo (h .ratings) (inputAt h (inputsAt t) k) (leadsBefore t k) n)
+
+  -- the verdict of the tick: its stop, if it has one
+  abbrev pub verdictAt : ℕ → ℕ → Verdict
+  verdictAt t k = verdict (h .ratings) (inputAt h (inputsAt t) k) (leadsBefore t k)
+
+  -- the tick stops the lead, urgently and with this reason
+  abbrev pub StopsUrgently : ℕ → ℕ → ℕ → Type 0
+  StopsUrgently t k reason = verdictAt t k ≡ Urgent reason
 
   -- the tick moves the lead from one phase to another
   abbrev pub Moves : ℕ → ℕ → ℕ → ℕ → Type 0
@@ -143,6 +154,13 @@ module _ (h : Head) (ticks : List Tick) where
   abbrev pub StaysZero : ℕ → ℕ → Type 0
   StaysZero t k = (u v : ℕ) → t ≤ u → commandAt u k ≡ 0 → u ≤ v → v < length ticks → (commandAt v k ≡ 0) ⊎ StartedAnew t v k
 
+  -- 2026-06: "In phases 2 to 6, with questions 11–13 yes, permission open and an H'102 counted in this tick with enabled clear"
+  pub record Withdraws (t k : ℕ) : Type 0 where
+    pub phases : T (between 2 6 (phaseBefore t k))
+    pub passed : (n : ℕ) → T (between 11 13 n) → NoAt t k n → ⊥
+    pub opened : T (not (contactsAt t k .permission))
+    pub said : T (revokes (statusAt t k))
+
   pub record Demand3 : Type 0 where
     -- "A lead commands current only while plug, lock contact and permission have stayed closed since before its insulation test passed."
     pub stayed-closed : (t k : ℕ) → t < length ticks → k < h .leads → 0 < commandAt t k → StayedClosed t k
@@ -160,6 +178,11 @@ module _ (h : Head) (ticks : List Tick) where
         → min (wantAt t k) (equalPart (h .leads) (wantAt t) (limitAt t)) / thresholdAt t k ≤ commandAt t k
     -- "After a stop question gets a no, it commands zero in that tick if urgent, by the 20th otherwise, that tick being the first."
     pub zero-at-once : (t k n : ℕ) → t < length ticks → k < h .leads → T (isUrgentQuestion n) → NoAt t k n → Zeroed t t k
+    -- 2026-06: "The urgent-stop wording of the safety statement includes this stop." So it is said of every urgent stop, whatever its reason.
+    -- This one is among them, with 23; and it is question 14's no, so that what follows is said of it too.
+    pub zero-at-urgent-stop : (t k reason : ℕ) → t < length ticks → k < h .leads → StopsUrgently t k reason → Zeroed t t k
+    pub withdrawal-is-urgent :
+        (t k : ℕ) → t < length ticks → k < h .leads → Withdraws t k → StopsUrgently t k notEnabled × NoAt t k permissionOpen
     pub zero-by-the-20th : (t k n : ℕ) → t < length ticks → k < h .leads → NoAt t k n → Zeroed t (t + 19) k
     -- "There it stays until unplugged and then started anew."
     pub stays-zero : (t k n : ℕ) → t < length ticks → k < h .leads → NoAt t k n → StaysZero t k

@@ -1,4 +1,5 @@
--- Lists of calls in which what demand 3 and requests 2026-01 and 2026-05 speak of happens: their claims are not empty. Definitions only.
+-- Lists of calls in which what demand 3 and requests 2026-01, 2026-05 and 2026-06 speak of happens: their claims are not empty.
+-- Definitions only.
 use mathlib.Core.List.{List, [], _∷_, _++_}
 use Prim.Native.Nat.{ℕ, zero, suc, _-_}
 use lib.ListN.{length, replicate, take, drop}
@@ -33,6 +34,10 @@ opened = status 9
 
 abbrev closed : List ℕ
 closed = status 1
+
+-- not enabled, with the contactor closed
+abbrev revoked : List ℕ
+revoked = status 0
 
 -- a lead's input: contacts, what is present, frames; volts 0 and amperes 0 where present, insulation resistance 8,192 ohms
 abbrev leadInput : ℕ → ℕ → ℕ → List ℕ → List ℕ
@@ -74,6 +79,18 @@ stop = leadInput 0x17 3 0 []
 abbrev cut : List ℕ
 cut = leadInput 5 3 1 closed
 
+-- 2026-06: the permission opened, and enabled clear in the same tick
+abbrev withdraw : List ℕ
+withdraw = leadInput 5 3 1 revoked
+
+-- the same, but a later H'102 of the tick enables again
+abbrev waver : List ℕ
+waver = leadInput 5 3 2 (revoked ++ closed)
+
+-- enabled clear, with the permission closed
+abbrev revoke : List ℕ
+revoke = leadInput 7 3 1 revoked
+
 -- a post with some leads, 500 V and 12 A
 abbrev head : ℕ → Head
 head leads = headFrom (record { leads = leads; volts = 500; amperes = 12; resistance = 0 })
@@ -81,6 +98,10 @@ head leads = headFrom (record { leads = leads; volts = 500; amperes = 12; resist
 -- a tick of two leads
 abbrev both : ℕ → List ℕ → List ℕ → Call
 both limit first second = tick (u32Bytes limit ++ first ++ second) (replicate (outputLength 2) 0)
+
+-- a tick of three leads, with power for all that they want
+abbrev all : List ℕ → List ℕ → List ℕ → Call
+all first second third = tick (u32Bytes 2000 ++ first ++ second ++ third) (replicate (outputLength 3) 0)
 
 -- a tick of one lead, with power for all that it wants
 abbrev alone : List ℕ → Call
@@ -150,6 +171,28 @@ twice =
     ∷ alone charge
     ∷ []
 
+-- 2026-06: of three cars that charge one opens its permission and revokes in the same tick, one opens it and has enabled again, and one only
+-- revokes
+unfoldable pub withdrawal : List Call
+withdrawal =
+    begin 3
+    ∷ all start start start
+    ∷ all handshake handshake handshake
+    ∷ all hold hold hold
+    ∷ all test test test
+    ∷ all hold hold hold
+    ∷ all charge charge charge
+    ∷ all charge charge charge
+    ∷ all charge charge charge
+    ∷ all charge charge charge
+    ∷ all charge charge charge
+    ∷ all charge charge charge
+    ∷ all withdraw waver revoke
+    ∷ all charge charge charge
+    ∷ all unplugged unplugged unplugged
+    ∷ all start start start
+    ∷ []
+
 -- what is looked at in every tick of every stretch
 abbrev inTicks : (Tick → List ℕ) → List Tick → List (List ℕ)
 inTicks look [] = []
@@ -159,20 +202,37 @@ abbrev inStretches : (Tick → List ℕ) → List Stretch → List (List (List �
 inStretches look [] = []
 inStretches look (s ∷ rest) = inTicks look (s .ticks) ∷ inStretches look rest
 
--- phase, reason and command of both leads after a tick
+-- phase, reason and command of a lead after a tick
+abbrev leadShown : Tick → ℕ → List ℕ
+leadShown t k = take 3 (outputPart (t .output) k)
+
+-- of both leads, and of all three
 abbrev shown : Tick → List ℕ
-shown t = take 3 (outputPart (t .output) 0) ++ take 3 (outputPart (t .output) 1)
+shown t = leadShown t 0 ++ leadShown t 1
+
+abbrev shownOfThree : Tick → List ℕ
+shownOfThree t = leadShown t 0 ++ leadShown t 1 ++ leadShown t 2
 
 -- phase, command and count of the only lead after a tick
 abbrev counted : Tick → List ℕ
 counted t = byteAt (outputPart (t .output) 0) 0 ∷ byteAt (outputPart (t .output) 0) 2 ∷ u64At (statePart (t .state) 0) 20 ∷ []
 
--- both lists, stretch by stretch, from no state at all
+-- the lists, stretch by stretch, from no state at all
 abbrev pub played : List (List (List ℕ))
 played = inStretches shown (stretchesOf [] session)
 
 abbrev pub playedTwice : List (List (List ℕ))
 playedTwice = inStretches counted (stretchesOf [] twice)
+
+abbrev pub playedWithdrawal : List (List (List ℕ))
+playedWithdrawal = inStretches shownOfThree (stretchesOf [] withdrawal)
+
+-- the setup and the ticks of `withdrawal`
+abbrev pub withdrawalHead : Head
+withdrawalHead = head 3
+
+abbrev pub withdrawalTicks : List Tick
+withdrawalTicks = ticksOf (setupOf (head 3) (replicate (stateLength 3) 0) .state) (drop 1 withdrawal)
 
 -- 2026-05: the ticks of `session` up to the setup that begins a new list
 abbrev sessionTicks : List Tick

@@ -76,7 +76,7 @@ ask-spec =
     (search needs) (λ c. stops (row-11 (c .before)) (c .if1 .taken))
     (search needs) (λ c. stops (row-12 (c .before)) (c .if2 .taken))
     (search needs) (λ c. stops (row-13 (c .before)) (c .if3 .taken))
-    (search needs) (λ c. stops (row-14 (c .before)) (c .if4 .taken))
+    (search needs) (search needs) (λ c. rw (c .opened-reason .ensures) (stops (row-14 (c .before .before)) (c .before .if4 .taken)))
     (search needs) (λ c. stops (row-15 (c .before)) (c .if5 .taken))
     (search needs) (search needs) (λ c. stops (row-16 (c .before)) (c .if6 .taken))
     (search needs) (search needs) (λ c. stops (row-17 (c .before)) (c .if7 .taken))

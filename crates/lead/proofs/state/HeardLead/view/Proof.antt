@@ -13,12 +13,13 @@ returns c =
       c .before .ticks-allowed .ensures,
       c .before .before .is-insulated .ensures,
       k .is-present .ensures,
-      k .before .signals .ensures,
-      k .before .before .from-reading .ensures,
-      k .before .before .before .threshold-now .ensures,
+      k .before .is-revoking .ensures,
+      k .before .before .signals .ensures,
+      k .before .before .before .from-reading .ensures,
+      k .before .before .before .before .threshold-now .ensures,
     )
 
 pub view-spec : {M : Type 1} → statement M
 view-spec =
     tie.close
-    (tie.spec (search needs) (search needs) (search needs) (search needs) (search needs) (search needs) (search needs) returns)
+    (tie.spec (search needs) (search needs) (search needs) (search needs) (search needs) (search needs) (search needs) (search needs) returns)
