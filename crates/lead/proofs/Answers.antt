@@ -38,6 +38,10 @@ abbrev pub everyRow : (Question → Bool) → List Question → Bool
 everyRow f [] = true
 everyRow f (q ∷ rows) = f q && everyRow f rows
 
+-- a reason is 0 or that of a question
+abbrev pub isKnown : ℕ → Bool
+isKnown reason = eqb reason noReason || between 11 29 reason
+
 module _ (p : ℕ) where
   never : T (isNo p noQuestion) → ⊥
   never t = and-r (between 0 0 p) false t
@@ -105,10 +109,7 @@ module _ (v : View) (h : HeardLead) where
   mild-yes : T (not (isUrgent (ask v h))) → (j : ℕ) → j ≤ 7 → T (isNo (h .lead .stage .phase) (row (questions v h) j)) → ⊥
   mild-yes t j x n = T-not (isUrgent (ask v h)) t (urgent-no j x n)
 
-  -- the reason of a verdict is 0 or that of a question; of question 14 it is one of two
-  abbrev isKnown : ℕ → Bool
-  isKnown reason = eqb reason noReason || between 11 29 reason
-
+  -- so is that of every verdict; question 14's is one of two
   pub reason-known : T (isKnown (reasonOf (ask v h)))
   unfolding ask questions
   reason-known =

@@ -26,14 +26,14 @@ use mir.Facts.{or-yes}
 use Rattle.common.proofs.Bools.{holds, or-r, mp, imp-of, is-false, between-of, between-lo}
 use Rattle.lead.proofs.Phases as phases
 use Rattle.lead.proofs.Phases.{isPass}
-use Rattle.lead.proofs.Answers.{OrdinaryYes, ordinary-yes, reason-known}
+use Rattle.lead.proofs.Answers.{isKnown, OrdinaryYes, ordinary-yes, reason-known}
 use Rattle.lead.proofs.Ticks.{may, phaseAfter, start, MoveMet, move-met, decide-phase, started, WentOn, not-started}
 use Rattle.lead.proofs.Commands.{command-most, command-0, want-rated}
 
 -- what the good-state check says of a lead
 pub record Good (c : Ratings) (s : Lead) : Type 0 where
   pub phase : s .stage .phase ≤ 10
-  pub reason : T (eqb (s .stage .reason) noReason || between 11 29 (s .stage .reason))
+  pub reason : T (isKnown (s .stage .reason))
   pub most : s .command ≤ c .amperes
   pub unpowered : (T (between 6 7 (s .stage .phase)) → ⊥) → s .command ≡ 0
   pub threshold : T (eqb (s .threshold) 0 || between leastVolts (c .volts) (s .threshold))
@@ -48,7 +48,7 @@ module _ (c : Ratings) (s : Lead) where
   t = s .threshold
 
   abbrev known : Bool
-  known = eqb (s .stage .reason) noReason || between 11 29 (s .stage .reason)
+  known = isKnown (s .stage .reason)
 
   abbrev rated : Bool
   rated = leb (s .command) (c .amperes)
@@ -267,11 +267,11 @@ module _ (c : Ratings) (i : Input) (s : Lead) (wide : leastVolts ≤ c .volts) (
   command-gone : (T (between 6 7 q) → ⊥) → decide c i s .command ≡ 0
   command-gone n = rw (on .command, is-false (between 6 7 q) n)
 
-  reason-after : T (eqb (decide c i s .stage .reason) noReason || between 11 29 (decide c i s .stage .reason))
+  reason-after : T (isKnown (decide c i s .stage .reason))
   unfolding reasonAfter
   reason-after = rw (on .reason) (go (between 7 8 before || eqb (reasonOf (verdict c i s)) noReason))
     where
-      go : (b : Bool) → T (eqb (cond b (s .stage .reason) (reasonOf (verdict c i s))) noReason || between 11 29 (cond b (s .stage .reason) (reasonOf (verdict c i s))))
+      go : (b : Bool) → T (isKnown (cond b (s .stage .reason) (reasonOf (verdict c i s))))
       go true = g .reason
       go false = reason-known (viewOf c i h) h
 

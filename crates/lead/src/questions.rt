@@ -29,7 +29,7 @@ pub struct Meter {
 }
 
 // What the questions and the moves look at beside the lead's own numbers: contacts, meter, what the bits of the newest H'102 say,
-// whether this tick's own took enabled back, rated amperes, the threshold voltage (worked out in phase 1, kept in the later ones),
+// whether this tick's own has enabled clear, rated amperes, the threshold voltage (worked out in phase 1, kept in the later ones),
 // whether an insulation resistance is present and high enough, the ticks allowed in the phase, and the charging time in ticks.
 pub struct View {
     pub contacts: Contacts,

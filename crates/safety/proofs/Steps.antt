@@ -13,7 +13,8 @@ use Rattle.lead.specs.Hearing.{hear}
 use Rattle.lead.specs.Leads.{blank}
 use Rattle.lead.specs.Names.{noReason}
 use Rattle.lead.specs.Questions.{reasonOf}
-use Rattle.lead.specs.Moves.{reasonAfter, decide}
+use Rattle.lead.specs.Moves.{reasonAfter}
+use Rattle.lead.specs.Power.{commanded}
 use Rattle.lead.specs.declared.state.Lead.{Lead}
 use Rattle.lead.specs.declared.state.Car.{Car}
 use Rattle.lead.specs.declared.state.Input.{Input}
@@ -82,18 +83,13 @@ module _ (h : Head) (ticks : List Tick) (k : ℕ) where
   unfolding leadAfter decidedAt
   car-kept t = whole.ticked-car (h .ratings) (input t) (lead t) (phase-most t) (levelAt h ticks t)
 
-  -- one that it starts shows no reason and knows nothing
-  stage-blank : (t : ℕ) → phase t ≡ 0 → phase (suc t) ≡ 1 → lead (suc t) .stage ≡ blank 1 .stage
+  -- one that it starts remembers nothing
+  begins : (t : ℕ) → phase t ≡ 0 → phase (suc t) ≡ 1 → lead (suc t) ≡ commanded (h .ratings) (levelAt h ticks t) (blank 1)
   unfolding leadAfter decidedAt
-  stage-blank t e f =
-      command-stage (h .ratings) (levelAt h ticks t) (decide (h .ratings) (input t) (lead t))
-      ∙ ap (λ (x : Lead). x .stage) (started (h .ratings) (input t) (lead t) e (sym (phase-is t) ∙ f))
+  begins t e f = ap (commanded (h .ratings) (levelAt h ticks t)) (started (h .ratings) (input t) (lead t) e (sym (phase-is t) ∙ f))
 
   pub car-blank : (t : ℕ) → phase t ≡ 0 → phase (suc t) ≡ 1 → lead (suc t) .car ≡ blank 1 .car
-  unfolding leadAfter decidedAt
-  car-blank t e f =
-      command-car (h .ratings) (levelAt h ticks t) (decide (h .ratings) (input t) (lead t))
-      ∙ ap (λ (x : Lead). x .car) (started (h .ratings) (input t) (lead t) e (sym (phase-is t) ∙ f))
+  car-blank t e f = ap (λ (x : Lead). x .car) (begins t e f) ∙ command-car (h .ratings) (levelAt h ticks t) (blank 1)
 
   -- in phases 1 to 6 a lead shows no reason before a tick, and after it that of the verdict
   reason-of : (t : ℕ) → T (between 1 6 (phase t)) → lead t .stage .reason ≡ noReason → lead (suc t) .stage .reason ≡ reasonOf (verdictAt h ticks t k)
@@ -120,9 +116,10 @@ module _ (h : Head) (ticks : List Tick) (k : ℕ) where
           let on : T (between 1 6 (phase t)) = and-l (between 1 6 (phase t)) (isPass (verdictAt h ticks t k)) passed in
           reason-of t on (before on) ∙ pass-reason (verdictAt h ticks t k) (and-r (between 1 6 (phase t)) (isPass (verdictAt h ticks t k)) passed)
       go (inr began) before =
-          ap (λ (x : Stage). x .reason)
-          (stage-blank t (eqb→eq (phase t) 0 (and-l (eqb (phase t) 0) (eqb (phase (suc t)) 1) began))
+          ap (λ (x : Lead). x .stage .reason)
+          (begins t (eqb→eq (phase t) 0 (and-l (eqb (phase t) 0) (eqb (phase (suc t)) 1) began))
           (eqb→eq (phase (suc t)) 1 (and-r (eqb (phase t) 0) (eqb (phase (suc t)) 1) began)))
+          ∙ ap (λ (x : Stage). x .reason) (command-stage (h .ratings) (levelAt h ticks t) (blank 1))
 
   pub reason-is : (t : ℕ) → T (between 1 6 (phase t)) → lead (suc t) .stage .reason ≡ reasonOf (verdictAt h ticks t k)
   reason-is t w = reason-of t w (no-reason t w)

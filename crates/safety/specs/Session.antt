@@ -227,16 +227,20 @@ playedTwice = inStretches counted (stretchesOf [] twice)
 abbrev pub playedWithdrawal : List (List (List ℕ))
 playedWithdrawal = inStretches shownOfThree (stretchesOf [] withdrawal)
 
--- the setup and the ticks of `withdrawal`
+-- the ticks of a list from the setup that it begins with up to the next one
+abbrev ticksBehind : ℕ → List Call → List Tick
+ticksBehind leads calls = ticksOf (setupOf (head leads) (replicate (stateLength leads) 0) .state) (drop 1 calls)
+
+-- 2026-06: what `withdrawal` sets up, and its ticks
 abbrev pub withdrawalHead : Head
 withdrawalHead = head 3
 
 abbrev pub withdrawalTicks : List Tick
-withdrawalTicks = ticksOf (setupOf (head 3) (replicate (stateLength 3) 0) .state) (drop 1 withdrawal)
+withdrawalTicks = ticksBehind 3 withdrawal
 
--- 2026-05: the ticks of `session` up to the setup that begins a new list
+-- 2026-05: the ticks of `session`
 abbrev sessionTicks : List Tick
-sessionTicks = ticksOf (setupOf (head 2) (replicate (stateLength 2) 0) .state) (drop 1 session)
+sessionTicks = ticksBehind 2 session
 
 -- a lead's phase, the amperes that it wants, its command and the amperes that H'108 offers, in tick t
 abbrev offeredTo : ℕ → ℕ → List ℕ
