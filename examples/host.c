@@ -12,7 +12,13 @@
  * Each lead has a receive chip, here that of receiver.h: what a car sends arrives there, and before
  * each tick the host fetches it into the tick's input. It asks every time and needs no interrupt,
  * so the mask stays 0.
+ *
+ * With the argument `gbt` lead 2 has the system B coupler of plug_sensing.h: its plug contact is
+ * sensed, from the voltage of detection point 1. The session is the same, but that voltage is once
+ * not measured, and the connector's switch S is opened twice: for one tick, which changes nothing,
+ * and then for longer, just before the stop button is pressed.
  */
+#include "plug_sensing.h"
 #include "post.h"
 #include "receiver.h"
 
@@ -78,6 +84,28 @@ static const struct step {
 };
 enum { STEPS = sizeof session / sizeof *session };
 
+enum { GBT_LEAD = 1, NOT_MEASURED = PLUG_LARGEST_MILLIVOLTS + 1 };
+
+/* What the board measures at detection point 1 of the lead with the system B coupler: from its tick
+ * on a value holds. */
+static const struct detected {
+    unsigned from;
+    const char *what;
+    uint32_t millivolts;
+} detection_point[] = {
+    {1, "connector out", 6000},
+    {40, "detection point 1 not measured", NOT_MEASURED},
+    {41, "connector out", 6000},
+    {67, "connector in, switch S closed", 4000},
+    {150, "switch S open, for one tick", 6000},
+    {151, "switch S closed", 4000},
+    {158, "switch S open", 6000},
+    {164, "switch S closed", 4000},
+    {182, "switch S open, connector out", 12000},
+    {184, "switch S let go", 6000},
+};
+enum { DETECTED = sizeof detection_point / sizeof *detection_point };
+
 /* Ticks in which the host makes a mistake: it sets a spare bit of the input. */
 static bool is_spoilt(unsigned now) { return now == 146 || (now >= 200 && now <= 205); }
 
@@ -122,6 +150,11 @@ static const char *const receiver_answers[] = {
     [RECEIVER_REFUSED_REGISTER] = "number of the register",
 };
 
+static const char *const plug_answers[] = {
+    [PLUG_DONE] = "done", [PLUG_REFUSED_STATE] = "state not good",
+    [PLUG_REFUSED_ROOM] = "room lent", [PLUG_REFUSED_MILLIVOLTS] = "value of detection point 1",
+};
+
 /* The name of a number, which may be any: none is looked for past the end of the table. */
 #define NAME_OF(names, number) name_of(names, sizeof(names) / sizeof *(names), number)
 
@@ -138,6 +171,8 @@ struct board {
     unsigned sent;
     uint8_t frames[2 * POST_FRAME_DATA_LENGTH];
     uint8_t receiver[RECEIVER_LENGTH];
+    bool is_gbt; /* the lead has the system B coupler */
+    uint8_t plug_state[PLUG_STATE_LENGTH], plug;
 };
 
 /* Whether a receiver has done a call; where not, the desk is told. A refusal is a mistake of this
@@ -147,6 +182,14 @@ static bool done_or_told(uint32_t number) {
         printf("receiver refused with %lu: %s\n", (unsigned long)number,
                NAME_OF(receiver_answers, number));
     return number == RECEIVER_DONE;
+}
+
+/* The same of the sensing of a lead's plug; a value that is refused is no mistake of this host. */
+static bool plug_done_or_told(unsigned now, unsigned lead, uint32_t number) {
+    if (number != PLUG_DONE)
+        printf("tick %3u  lead %u: plug refused with %lu: %s, taken as open\n", now, lead + 1,
+               (unsigned long)number, NAME_OF(plug_answers, number));
+    return number == PLUG_DONE;
 }
 
 /* A refused call leaves 0: then no frame is fetched, and none is told to be lost. */
@@ -217,6 +260,33 @@ static void put_lead(uint8_t *record, const struct step *step, const struct boar
     }
 }
 
+static uint32_t millivolts_at(unsigned now) {
+    uint32_t last = NOT_MEASURED;
+
+    for (size_t i = 0; i < DETECTED; i++)
+        if (detection_point[i].from <= now)
+            last = detection_point[i].millivolts;
+    return last;
+}
+
+/* The plug contact as it is sensed, in place of the step's, once in each tick. The byte is set to
+ * PLUG_OPEN ahead; a refused call leaves it so, and the lead counts as unplugged. The desk asks for
+ * the millivolts when such a lead stops with 12: they are shown when the contact changes. */
+static void put_plug(uint8_t *record, unsigned now, unsigned lead, struct board *board) {
+    uint32_t millivolts = millivolts_at(now);
+    uint8_t before = board->plug;
+
+    board->plug = PLUG_OPEN;
+    uint32_t number = plug_sense_checked(board->plug_state, sizeof board->plug_state, millivolts,
+                                         &board->plug, PLUG_LENGTH);
+    if (plug_done_or_told(now, lead, number) && board->plug != before)
+        printf("tick %3u  lead %u: plug %s, %lu mV\n", now, lead + 1,
+               board->plug == PLUG_CLOSED ? "closed" : "open", (unsigned long)millivolts);
+    record[POST_INPUT_CONTACTS] &= (uint8_t)~POST_CONTACT_PLUG;
+    if (board->plug == PLUG_CLOSED)
+        record[POST_INPUT_CONTACTS] |= POST_CONTACT_PLUG;
+}
+
 /* Fetches the frames that the chip holds, the one held longest first, while there are records.
  * Where the tick is refused they are gone unheard; this host lets them go, as cars repeat them. */
 static void take_frames(uint8_t *record, struct board *board) {
@@ -239,6 +309,8 @@ static void put_input(uint8_t *input, unsigned now, struct board *boards) {
 
         if (step != NULL)
             put_lead(input + POST_INPUT_LEAD(lead), step, &boards[lead]);
+        if (boards[lead].is_gbt)
+            put_plug(input + POST_INPUT_LEAD(lead), now, lead, &boards[lead]);
         take_frames(input + POST_INPUT_LEAD(lead), &boards[lead]);
     }
     if (is_spoilt(now))
@@ -277,10 +349,13 @@ static void cut_off(struct board *board) {
     }
 }
 
-static void show_steps(unsigned now) {
+static void show_steps(unsigned now, const struct board *boards) {
     for (size_t i = 0; i < STEPS; i++)
         if (session[i].from == now)
             printf("tick %3u  [lead %u: %s]\n", now, session[i].lead + 1, session[i].what);
+    for (size_t i = 0; i < DETECTED; i++)
+        if (detection_point[i].from == now && boards[GBT_LEAD].is_gbt)
+            printf("tick %3u  [lead %u: %s]\n", now, GBT_LEAD + 1, detection_point[i].what);
     for (unsigned lead = 0; lead < LEADS; lead++)
         if (is_repeated(now, lead))
             printf("tick %3u  [lead %u: car sends its three frames three times]\n", now, lead + 1);
@@ -368,13 +443,18 @@ static void show_frames(unsigned lead, const struct board *board) {
     printf("\n");
 }
 
-int main(void) {
+int main(int argc, char **argv) {
+    bool with_gbt = argc == 2 && strcmp(argv[1], "gbt") == 0;
     uint8_t state[POST_STATE_LENGTH(LEADS)];
     uint8_t input[POST_INPUT_LENGTH(LEADS)];
     uint8_t output[POST_OUTPUT_LENGTH(LEADS)] = {0};
     struct board boards[LEADS] = {{0}};
     struct desk desk[LEADS] = {{0}};
 
+    if (argc > 1 && !with_gbt) {
+        fprintf(stderr, "usage: host [gbt]\n");
+        return 2;
+    }
     uint32_t number = post_setup(LEADS, RATED_VOLTS, RATED_AMPERES, post_float_bits(0.0F), state,
                                  sizeof state);
     if (number != POST_DONE) {
@@ -384,10 +464,12 @@ int main(void) {
     for (unsigned lead = 0; lead < LEADS; lead++)
         if (!done_or_told(receiver_power_up_checked(boards[lead].receiver, RECEIVER_LENGTH)))
             return 1;
+    boards[GBT_LEAD].is_gbt = with_gbt;
+    boards[GBT_LEAD].plug_state[0] = PLUG_FRESH_STATE;
     /* Here no time passes. A post waits for its tenth of a second in each turn, and a timer beside
      * this loop cuts off when a tick is late. */
     for (unsigned now = 1; now <= LAST_TICK; now++) {
-        show_steps(now);
+        show_steps(now, boards);
         send_cars(now, boards);
         put_input(input, now, boards);
         show_losses(now, boards);
@@ -411,5 +493,12 @@ int main(void) {
     show_refusal(LAST_TICK + 1, number, boards);
     printf("tick %3u  [a NULL for a receiver]\n", LAST_TICK + 1);
     bool is_taken = done_or_told(receiver_power_up_checked(NULL, RECEIVER_LENGTH));
+    if (with_gbt) {
+        printf("tick %3u  [a NULL for the state of a plug]\n", LAST_TICK + 1);
+        uint8_t plug = PLUG_OPEN;
+        uint32_t sensed =
+            plug_sense_checked(NULL, PLUG_STATE_LENGTH, PLUG_U1C_MIN, &plug, PLUG_LENGTH);
+        is_taken |= plug_done_or_told(LAST_TICK + 1, GBT_LEAD, sensed);
+    }
     return number == POST_REFUSED_INPUT_LENGTH && !is_taken ? 0 : 1;
 }

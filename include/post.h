@@ -264,7 +264,7 @@ static inline float post_get_float(const uint8_t *place) {
 #define POST_INPUT_FRAME(record) (POST_INPUT_FRAMES + POST_FRAME_RECORD_LENGTH * (size_t)(record))
 
 /* Contacts closed, buttons pressed; bit 7 is 0. */
-#define POST_CONTACT_PLUG             0x01
+#define POST_CONTACT_PLUG             0x01 /* at a lead with a GB/T plug: by plug_sensing.h */
 #define POST_CONTACT_PERMISSION       0x02
 #define POST_CONTACT_LOCK             0x04
 #define POST_CONTACT_EMERGENCY_BUTTON 0x08

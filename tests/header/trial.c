@@ -1,33 +1,12 @@
 /* Bytes, scenes and ticks, all by the names of post.h. */
 #include "trial.h"
 
-#include <stdio.h>
-#include <stdlib.h>
 #include <string.h>
 
 enum { UNWRITTEN = 0xEE };
 
 uint8_t state[ROOM], input[ROOM], output[ROOM];
 uint32_t power_limit = USUAL_LIMIT;
-unsigned checks;
-
-static const char *subject = "";
-static unsigned long subject_number;
-
-void check(const char *file, int line, const char *name, unsigned long found,
-           unsigned long expected) {
-    checks++;
-    if (found == expected)
-        return;
-    printf("%s:%d: %s %lu: %s is %lu, not %lu\n", file, line, subject, subject_number, name, found,
-           expected);
-    exit(1);
-}
-
-void about(const char *what, unsigned long number) {
-    subject = what;
-    subject_number = number;
-}
 
 void put_frame(uint8_t *record, uint16_t identifier, const uint8_t *data) {
     post_put_u16(record + POST_FRAME_IDENTIFIER, identifier);

@@ -1,7 +1,8 @@
-/* What the parts of the header's test share: checks, bytes, and a lead taken through its phases. */
+/* What the parts of the header's test share: bytes, and a lead taken through its phases. */
 #ifndef TRIAL_H_INCLUDED
 #define TRIAL_H_INCLUDED
 
+#include "../checks.h"
 #include "post.h"
 
 /* The second of two leads is tried, so that lengths count, and every figure is another one. */
@@ -14,20 +15,9 @@ enum { ROOM = 1024 }; /* more than any length, right or wrong */
 
 extern uint8_t state[ROOM], input[ROOM], output[ROOM];
 extern uint32_t power_limit;
-extern unsigned checks;
-
-/* Ends the program with a line at the first difference. */
-#define CHECK(found, expected) CHECK_NAMED(#found, found, expected)
-#define CHECK_NAMED(name, found, expected)                                                         \
-    check(__FILE__, __LINE__, name, (unsigned long)(found), (unsigned long)(expected))
-void check(const char *file, int line, const char *name, unsigned long found,
-           unsigned long expected);
 
 /* A place in a table, and its name in front. */
 #define NAMED(place) #place, place
-
-/* What the checks that follow are about, for that line. */
-void about(const char *what, unsigned long number);
 
 void put_frame(uint8_t *record, uint16_t identifier, const uint8_t *data);
 

@@ -2,7 +2,7 @@
 
 use second::post;
 use shared::compare::Tables;
-use shared::coverage::{columns, Table, PARTS};
+use shared::coverage::{Report, Table};
 
 use crate::causes::{Setup, Tick};
 use crate::compare::Call;
@@ -47,17 +47,12 @@ impl Tables for Coverage {
         }
     }
 
-    /// The table, and whether everything is in it.
     fn report(&self, factor: u64) -> Result<String, String> {
-        let mut text = columns(PARTS) + "\n";
-        let mut missing = String::new();
-        self.setups.report(factor, &mut text, &mut missing);
-        self.ticks.report(factor, &mut text, &mut missing);
-        self.posts.report(factor, &mut text, &mut missing);
-        self.turns.report(factor, &mut text, &mut missing);
-        match missing.is_empty() {
-            true => Ok(format!("{text}{} calls, no difference\n", self.calls)),
-            false => Err(text + &missing),
-        }
+        let mut report = Report::new(factor);
+        report.table(&self.setups);
+        report.table(&self.ticks);
+        report.table(&self.posts);
+        report.table(&self.turns);
+        report.end("post_compare", self.calls)
     }
 }

@@ -2,7 +2,7 @@
 
 use second::receiver::DONE;
 use shared::compare::Tables;
-use shared::coverage::{columns, report_row, Counts, Table, PARTS};
+use shared::coverage::{Every, Report, Table};
 
 use crate::call::Call;
 use crate::facts;
@@ -16,7 +16,7 @@ pub struct Coverage {
     made: Table<Made>,
     steps: Table<Step>,
     pasts: Table<Past>,
-    every: Vec<Every>,
+    every: Vec<Every<Step>>,
     calls: u64,
 }
 
@@ -56,58 +56,11 @@ impl Tables for Coverage {
     }
 
     fn report(&self, factor: u64) -> Result<String, String> {
-        let mut text = columns(PARTS) + "\n";
-        let mut missing = String::new();
-        self.made.report(factor, &mut text, &mut missing);
-        self.steps.report(factor, &mut text, &mut missing);
-        self.pasts.report(factor, &mut text, &mut missing);
-        for every in &self.every {
-            every.report(&mut text, &mut missing);
-        }
-        let rows = self.made.rows() + self.steps.rows() + self.pasts.rows() + self.every.len();
-        match missing.is_empty() {
-            true => {
-                let calls = self.calls;
-                let end = format!("receiver_compare: {calls} calls agree, {rows} rows covered\n");
-                Ok(text + &end)
-            }
-            false => Err(text + &missing),
-        }
-    }
-}
-
-/// The parts in which each kind has to occur once, how many kinds there are, a text, and the kind
-/// that a call is of.
-pub type EveryFact = (
-    [bool; PARTS.len()],
-    usize,
-    &'static str,
-    fn(&Step) -> Option<usize>,
-);
-
-/// A row whose numbers say how many kinds occurred.
-struct Every {
-    fact: &'static EveryFact,
-    seen: [Vec<bool>; PARTS.len()],
-}
-
-impl Every {
-    fn new(fact: &'static EveryFact) -> Every {
-        let seen = PARTS.map(|_| vec![false; fact.1]);
-        Every { fact, seen }
-    }
-
-    fn count(&mut self, part: usize, step: &Step) {
-        if let Some(kind) = (self.fact.3)(step) {
-            self.seen[part][kind] = true;
-        }
-    }
-
-    fn report(&self, text: &mut String, missing: &mut String) {
-        let (parts, kinds, row, _) = self.fact;
-        let least = parts.map(|all| if all { *kinds as u64 } else { 0 });
-        let count = |seen: &Vec<bool>| seen.iter().filter(|seen| **seen).count() as u64;
-        let found: Counts = self.seen.each_ref().map(count);
-        report_row(least, row, found, text, missing);
+        let mut report = Report::new(factor);
+        report.table(&self.made);
+        report.table(&self.steps);
+        report.table(&self.pasts);
+        report.every(&self.every);
+        report.end("receiver_compare", self.calls)
     }
 }

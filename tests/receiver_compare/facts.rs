@@ -4,10 +4,9 @@
 use second::frames::FRAME_LENGTH;
 use second::receiver::place::*;
 use second::receiver::*;
-use shared::coverage::{pairs, Counts, Fact, Table};
+use shared::coverage::{Counts, EveryFact, Fact, Table};
 
 use crate::call::{slice_of, Entry, ENTRIES};
-use crate::coverage::EveryFact;
 use crate::made::Made;
 use crate::moods::MOODS;
 use crate::sessions::Past;
@@ -33,19 +32,11 @@ pub fn of_calls() -> Table<Made> {
     for entry in ENTRIES {
         let (name, refusals) = (entry.name(), entry.refusals());
         table.row([100, 1_000, 100], format!("{name} is carried out"), move |made| made.entry == entry && made.answer == DONE);
+        table.refusals(WITH_REFUSALS, name, refusals, move |made| (made.entry == entry).then_some((made.answer, &made.fits)));
         for &refusal in refusals {
-            table.row(WITH_REFUSALS, format!("{name} returns {refusal}, nothing else wrong"), move |made| made.alone(entry, refusal));
             if let Some(slice) = slice_of(refusal) {
                 add_lengths(&mut table, entry, refusal, slice);
             }
-        }
-        for (first, later) in pairs(refusals) {
-            table.row(WITH_REFUSALS, format!("{name} returns {first}, where {later} fits and no other"), move |made|
-                made.entry == entry && made.answer == first && made.fits == [first, later]);
-        }
-        if refusals.len() > 2 {
-            table.row(WITH_REFUSALS, format!("{name} returns {}, where all fit", refusals[0]), move |made|
-                made.entry == entry && made.answer == refusals[0] && made.fits == refusals);
         }
         if refusals.contains(&REFUSED_REGISTER) {
             add_numbers(&mut table, entry);
@@ -359,7 +350,7 @@ fn pair(first: u8, second: u8) -> usize {
 }
 
 #[rustfmt::skip]
-pub const EVERY: &[EveryFact] = &[
+pub const EVERY: &[EveryFact<Step>] = &[
     (IN_HANDED_IN, PAIRS, "pairs of status and turn at an arrival", |step| step.is(Arrive).then(|| pair(step.status(), step.before[TURN]))),
     (IN_HANDED_IN, PAIRS, "pairs of status and turn at a drain", |step| step.is(Drain).then(|| pair(step.status(), step.before[TURN]))),
     (IN_HANDED_IN, PAIRS, "pairs of status and mask at a line", |step| step.is(Line).then(|| pair(step.status(), step.before[MASK]))),

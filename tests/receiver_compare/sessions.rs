@@ -236,7 +236,7 @@ impl Session<'_, '_> {
             let entry = self.dice().pick(&ENTRIES);
             let mut call = Call::of(entry, self.receiver.to_vec(), self.dice());
             garbled::spoil(&mut call, self.dice());
-            garbled::make_refused(self.run, &mut call)?;
+            self.run.make_refused(&mut call)?;
             if let Ok(receiver) = call.slices[0].as_slice().try_into() {
                 self.receiver = receiver;
             }

@@ -1,32 +1,11 @@
-/* Checks, and each call held to what the request's words do to the same bytes. */
+/* Each call held to what the request's words do to the same bytes. */
 #include "trial.h"
 
-#include <stdio.h>
-#include <stdlib.h>
 #include <string.h>
 
 enum { UNTOUCHED = 0xEE };
 
 struct memory memory, expected;
-unsigned checks;
-
-static const char *subject = "";
-static unsigned long subject_number;
-
-void check(const char *file, int line, const char *name, unsigned long found,
-           unsigned long expected_number) {
-    checks++;
-    if (found == expected_number)
-        return;
-    printf("%s:%d: %s %lu: %s is %lu, not %lu\n", file, line, subject, subject_number, name, found,
-           expected_number);
-    exit(1);
-}
-
-void about(const char *what, unsigned long number) {
-    subject = what;
-    subject_number = number;
-}
 
 void fill(unsigned filling) {
     memset(&memory, UNTOUCHED, sizeof memory);
@@ -42,17 +21,8 @@ void put_frame(uint8_t *frame, unsigned number) {
 /* The first byte that differs is told by its place in the receiver; those before it are negative,
  * and behind it come the bytes around and what is lent. */
 static void check_memory(const char *call, uint32_t answer) {
-    const uint8_t *found = (const uint8_t *)&memory, *wanted = (const uint8_t *)&expected;
-    size_t i = 0;
-    check(__FILE__, __LINE__, call, answer, RECEIVER_DONE);
-    checks++;
-    if (memcmp(found, wanted, sizeof memory) == 0)
-        return;
-    while (found[i] == wanted[i])
-        i++;
-    printf("%s: %s %lu: byte %ld is %u, not %u\n", call, subject, subject_number,
-           (long)i - (long)offsetof(struct memory, receiver), found[i], wanted[i]);
-    exit(1);
+    CHECK_NAMED(call, answer, RECEIVER_DONE);
+    check_bytes(call, &memory, &expected, sizeof memory, offsetof(struct memory, receiver));
 }
 
 /* "registers as bytes: status (bit n for mailbox n, from 0)" */

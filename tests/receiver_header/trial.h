@@ -1,22 +1,12 @@
-/* What the parts of the test share: checks, bytes with others around them, and the request's words
- * as functions. */
+/* What the parts of the test share: bytes with others around them, and the request's words as
+ * functions. */
 #ifndef TRIAL_H_INCLUDED
 #define TRIAL_H_INCLUDED
 
+#include "../checks.h"
 #include "receiver.h"
 
 #include <stdbool.h>
-
-extern unsigned checks;
-
-/* Ends the program with a line at the first difference. */
-#define CHECK(found, expected)                                                                     \
-    check(__FILE__, __LINE__, #found, (unsigned long)(found), (unsigned long)(expected))
-void check(const char *file, int line, const char *name, unsigned long found,
-           unsigned long expected);
-
-/* What the checks that follow are about, for that line. */
-void about(const char *what, unsigned long number);
 
 /*
  * What a call is lent: a receiver, and a frame of which a value or a line takes the first byte.

@@ -1,6 +1,6 @@
 //! The post's lead controller and power divider, written a second time.
 //!
-//! It describes document 01, with requests 2026-01 to 2026-06 of document 02, in
+//! It describes document 01, with requests 2026-01 to 2026-07 of document 02, in
 //! plain code, in the order of document 01, and gives the expected answers for
 //! tests. Each layer knows only those above it in this list:
 //!
@@ -14,12 +14,16 @@
 //! `receiver` is the receive chip of the new board. It stands beside this list: it
 //! knows frame records and nothing else of these, and none of these knows it.
 //!
+//! `plug` senses a GB/T plug. It stands beside this list too: it knows none of these,
+//! and none of these knows it.
+//!
 //! `inputs` puts lead inputs together by name, for tests and test programs.
 
 pub mod bench;
 pub mod frames;
 pub mod inputs;
 pub mod lead;
+pub mod plug;
 pub mod post;
 pub mod readings;
 pub mod receiver;

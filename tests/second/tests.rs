@@ -1,5 +1,5 @@
-//! Tests through the two calls, those of the receiver and the bench language. Tests of a single layer
-//! stand beside it.
+//! Tests through the two calls, those of the receiver, that of the plug and the bench language. Tests
+//! of a single layer stand beside it.
 //! Most are tables of cases: what is done, what comes out.
 
 mod bench;
@@ -7,6 +7,7 @@ mod energy;
 mod offered;
 mod output;
 mod phases;
+mod plug;
 mod questions;
 mod receiver;
 mod refusals;

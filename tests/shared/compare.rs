@@ -151,6 +151,17 @@ impl<'a, T: Tables> Run<'a, T> {
         Ok(number)
     }
 
+    /// One that has to be refused, and then changes no byte, on either side.
+    pub fn make_refused(&mut self, call: &mut T::Call) -> Result<u32, String> {
+        let before = call.slices().map(<[u8]>::to_vec);
+        let number = self.make(call)?;
+        assert_ne!(number, 0, "{}", call.title());
+        match before.each_ref().map(Vec::as_slice) == call.slices() {
+            true => Ok(number),
+            false => Err(format!("{} is refused, but changed a byte\n", self.place())),
+        }
+    }
+
     /// Of the newest call.
     pub fn place(&self) -> String {
         let (program, part, number) = (self.program, PARTS[self.part], self.number);
@@ -182,6 +193,27 @@ fn through<C: Call>(call: &C, side: impl Fn(&C, [&mut [u8]; 3]) -> u32) -> Answe
 
 pub fn junk(length: usize, dice: &mut Dice) -> Vec<u8> {
     (0..length).map(|_| dice.byte()).collect()
+}
+
+/// Gives the bytes another length. Some are right again if all but their low 8 or 16 bits are cut
+/// off.
+pub fn spoil_length(bytes: &mut Vec<u8>, dice: &mut Dice) {
+    let right = bytes.len();
+    let length = match dice.below(10) {
+        0 => 0,
+        1 => 1,
+        2 => right - 1,
+        3 => right + 1,
+        4 => right + 2,
+        5 => 2 * right,
+        6 => dice.below(right as u32) as usize,
+        7 => right + dice.below(600) as usize,
+        8 => right + (1 << 8),
+        _ => right + (1 << dice.pick(&[8, 8, 8, 16])),
+    };
+    let length = length + 2 * usize::from(length == right);
+    bytes.truncate(length);
+    bytes.resize_with(length, || dice.byte());
 }
 
 fn text<C: Call>(call: &C) -> String {

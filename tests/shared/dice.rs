@@ -35,4 +35,15 @@ impl Dice {
     pub fn pick<T: Copy>(&mut self, from: &[T]) -> T {
         from[self.below(from.len() as u32) as usize]
     }
+
+    /// One of them or more, in their order.
+    pub fn some<T: Copy>(&mut self, from: &[T]) -> Vec<T> {
+        // A bit for each; at least one of them is set.
+        let chosen = 1 + self.below((1 << from.len()) - 1);
+        let is_chosen = |at: &usize| chosen >> at & 1 == 1;
+        (0..from.len())
+            .filter(is_chosen)
+            .map(|at| from[at])
+            .collect()
+    }
 }

@@ -1,4 +1,4 @@
-//! The calls of the two libraries, made safe. No other module has unsafe code. All are inline, so
+//! The calls of the libraries, made safe. No other module has unsafe code. All are inline, so
 //! that programs without a call need no library.
 //!
 //! A slice that a call only reads is lent for writing too, so that a library that writes into it
@@ -82,4 +82,15 @@ pub mod receiver {
         // SAFETY: each pointer and length are those of a slice lent for the call.
         unsafe { c::receiver_line(r, receiver.len(), l, line.len()) }
     }
+}
+
+#[inline]
+pub fn plug_sense(state: &mut [u8], millivolts: u32, plug: &mut [u8]) -> u32 {
+    extern "C" {
+        fn plug_sense(s: *mut u8, sn: usize, millivolts: u32, p: *mut u8, pn: usize) -> u32;
+    }
+    let (s, p) = (state.as_mut_ptr(), plug.as_mut_ptr());
+    // SAFETY: each pointer and length are those of a slice lent for the call; the two do not
+    // overlap.
+    unsafe { plug_sense(s, state.len(), millivolts, p, plug.len()) }
 }

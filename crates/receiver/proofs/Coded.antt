@@ -132,9 +132,3 @@ module _ (s : List ℕ) (a : status s < 256) (b : mask s < 256) where
 
   pub line-up : (bitAnd (status s) (mask s) ≡ 0 → ⊥) → 1 ≡ bitValue (isUp s)
   line-up n = rw (up-is, ne-eqb (bitAnd (status s) (mask s)) 0 n)
-
--- a store to a buffer of one byte
-pub one-byte : (l : List ℕ) (v : ℕ) → length l ≡ 1 → set l 0 v ≡ v ∷ []
-one-byte [] v e = absurd (omega arith)
-one-byte (x ∷ []) v e = refl
-one-byte (x ∷ y ∷ l) v e = absurd (omega arith)

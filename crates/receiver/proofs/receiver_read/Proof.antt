@@ -2,8 +2,8 @@
 use borrow.Author.Needs.{needs}
 use borrow.Author.Tests.{eq-eqb, ne-eqb, le-leb, lt-leb}
 use denote.Ref.{now}
+use Rattle.common.proofs.Copied.{one-byte}
 use Rattle.receiver.specs.All.{callRules}
-use Rattle.receiver.proofs.Coded.{one-byte}
 use Rattle.receiver.proofs.receiver_read.Statement.{statement}
 use Rattle.receiver.proofs.receiver_read.Tie as tie
 
