@@ -12,14 +12,8 @@ pub fn run(run: &mut Run) -> Result<(), String> {
     let kind = run.dice.pick(&[LOWEST, MIDDLE, any]);
     let millivolts = draw(kind, &mut run.dice);
     let state = run.dice.pick(&[FRESH, AFTER_LOWEST]);
-    let mut call = Call::of(&state, millivolts, &mut run.dice);
-    if run.dice.one_in(16) {
-        run.make(&mut call)?;
-        return Ok(());
-    }
-    spoil(&mut call, &mut run.dice);
-    run.make_refused(&mut call)?;
-    Ok(())
+    let call = Call::of(&state, millivolts, &mut run.dice);
+    run.make_garbled(call, spoil)
 }
 
 /// Makes one or more of the refusals fit.

@@ -17,13 +17,7 @@ pub fn run(run: &mut Run) -> Result<(), String> {
     let mut call = Call::of(entry, receiver, &mut run.dice);
     let low = run.dice.below(FIRST_MAILBOX as u32);
     call.number = run.dice.pick(&[low, call.number]);
-    if run.dice.one_in(16) {
-        run.make(&mut call)?;
-        return Ok(());
-    }
-    spoil(&mut call, &mut run.dice);
-    run.make_refused(&mut call)?;
-    Ok(())
+    run.make_garbled(call, spoil)
 }
 
 /// Makes one or more of the entry's refusals fit.

@@ -162,6 +162,21 @@ impl<'a, T: Tables> Run<'a, T> {
         }
     }
 
+    /// With something wrong, and then refused; now and then as it is.
+    pub fn make_garbled(
+        &mut self,
+        mut call: T::Call,
+        spoil: fn(&mut T::Call, &mut Dice),
+    ) -> Result<(), String> {
+        if self.dice.one_in(16) {
+            self.make(&mut call)?;
+            return Ok(());
+        }
+        spoil(&mut call, &mut self.dice);
+        self.make_refused(&mut call)?;
+        Ok(())
+    }
+
     /// Of the newest call.
     pub fn place(&self) -> String {
         let (program, part, number) = (self.program, PARTS[self.part], self.number);

@@ -10,6 +10,7 @@ mod c {
     extern "C" {
         pub fn setup(l: u32, v: u32, a: u32, r: u32, state: *mut u8, bytes: usize) -> u32;
         pub fn tick(s: *mut u8, sn: usize, i: *const u8, n: usize, o: *mut u8, on: usize) -> u32;
+        pub fn plug_sense(s: *mut u8, sn: usize, value: u32, p: *mut u8, pn: usize) -> u32;
     }
 }
 
@@ -26,6 +27,14 @@ pub fn tick(state: &mut [u8], input: &mut [u8], output: &mut [u8]) -> u32 {
     // SAFETY: each pointer and length are those of a slice lent for the call; the three slices do
     // not overlap.
     unsafe { c::tick(s, state.len(), i, input.len(), o, output.len()) }
+}
+
+#[inline]
+pub fn plug_sense(state: &mut [u8], millivolts: u32, plug: &mut [u8]) -> u32 {
+    let (s, p) = (state.as_mut_ptr(), plug.as_mut_ptr());
+    // SAFETY: each pointer and length are those of a slice lent for the call; the two slices do
+    // not overlap.
+    unsafe { c::plug_sense(s, state.len(), millivolts, p, plug.len()) }
 }
 
 /// The six calls of the receive chip. In each the slices do not overlap.
@@ -82,15 +91,4 @@ pub mod receiver {
         // SAFETY: each pointer and length are those of a slice lent for the call.
         unsafe { c::receiver_line(r, receiver.len(), l, line.len()) }
     }
-}
-
-#[inline]
-pub fn plug_sense(state: &mut [u8], millivolts: u32, plug: &mut [u8]) -> u32 {
-    extern "C" {
-        fn plug_sense(s: *mut u8, sn: usize, millivolts: u32, p: *mut u8, pn: usize) -> u32;
-    }
-    let (s, p) = (state.as_mut_ptr(), plug.as_mut_ptr());
-    // SAFETY: each pointer and length are those of a slice lent for the call; the two do not
-    // overlap.
-    unsafe { plug_sense(s, state.len(), millivolts, p, plug.len()) }
 }

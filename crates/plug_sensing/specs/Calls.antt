@@ -17,9 +17,6 @@ keeping wasLowest = bitValue wasLowest ∷ []
 abbrev pub freshState : List ℕ
 freshState = keeping false
 
-abbrev pub isState : List ℕ → Bool
-isState state = eqb (length state) 1 && leb (byteAt state 0) 1
-
 -- the bool that a state keeps
 abbrev pub wasLowestIn : List ℕ → Bool
 wasLowestIn state = eqb (byteAt state 0) 1
@@ -30,7 +27,7 @@ isTaken millivolts = asks (leb millivolts 20000) 31
 
 -- The request has no numbers for what is lent: 6 for what is kept between the calls, 8 for what is only written.
 abbrev pub hasState : List ℕ → Asked
-hasState state = asks (isState state) 6
+hasState state = asks (eqb (length state) 1 && leb (byteAt state 0) 1) 6
 
 abbrev pub hasRoom : List ℕ → Asked
 hasRoom plug = asks (eqb (length plug) 1) 8
