@@ -7,7 +7,8 @@
  * The session shows why one lead may give 62 A and the lead beside it 125 A: both cars ask for
  * 125 A and the post has 50,000 W, so that each lead gets 25,000 W. At 400 V that carries 62
  * whole amperes, at 200 V it carries 125. It also shows what a host does when a tick is refused,
- * and when a car's frames come faster than they are fetched.
+ * and when a car's frames come faster than they are fetched, and how a lead waits where its meter's
+ * error leaves open whether a limit is kept.
  *
  * Each lead has a receive chip, here that of receiver.h: what a car sends arrives there, and before
  * each tick the host fetches it into the tick's input. It asks every time and needs no interrupt,
@@ -27,6 +28,9 @@
 #include <string.h>
 
 enum { LEADS = 2, LAST_TICK = 216, RATED_VOLTS = 500, RATED_AMPERES = 125, POWER_LIMIT = 50000 };
+
+/* How far off this post's meters may be, in tenths: 1.0 V and 0.5 A. */
+enum { VOLTS_ERROR = 10, AMPERES_ERROR = 5 };
 
 /* What each car says in every tick in which it talks; its status stands in the session. */
 static const struct car {
@@ -73,6 +77,7 @@ static const struct step {
     {160, 1, "stop button pressed", STOPPED, 190, 0, CLOSED},
     {162, 1, "stop button let go", LOCKED, 190, 0, CLOSED},
     {176, 1, "car opens its contactor and permission", REVOKED, 60, 0, OPEN},
+    {177, 1, "9.5 V at the cable, which may be 10.5", REVOKED, 9.5F, 0, SILENT},
     {178, 1, "cable without voltage", REVOKED, 9, 0, SILENT},
     {179, 1, "connector unlocked", PLUGGED, 0, 0, SILENT},
     {182, 1, "unplugged", 0, 0, 0, SILENT},
@@ -139,6 +144,7 @@ static const char *const answers[] = {
     [POST_DONE] = "done", [POST_REFUSED_LEADS] = "number of leads",
     [POST_REFUSED_RATED_VOLTS] = "rated volts", [POST_REFUSED_RATED_AMPERES] = "rated amperes",
     [POST_REFUSED_CABLE_RESISTANCE] = "cable resistance",
+    [POST_REFUSED_METER_ERROR] = "error of a meter",
     [POST_REFUSED_STATE_LENGTH] = "length of the new state",
     [POST_REFUSED_STATE] = "state not good", [POST_REFUSED_INPUT_LENGTH] = "length of the input",
     [POST_REFUSED_OUTPUT_LENGTH] = "length of the output", [POST_REFUSED_INPUT] = "input not good",
@@ -455,8 +461,8 @@ int main(int argc, char **argv) {
         fprintf(stderr, "usage: host [gbt]\n");
         return 2;
     }
-    uint32_t number = post_setup(LEADS, RATED_VOLTS, RATED_AMPERES, post_float_bits(0.0F), state,
-                                 sizeof state);
+    uint32_t number = post_setup(LEADS, RATED_VOLTS, RATED_AMPERES, post_float_bits(0.0F),
+                                 VOLTS_ERROR, AMPERES_ERROR, state, sizeof state);
     if (number != POST_DONE) {
         printf("setup refused with %lu: %s\n", (unsigned long)number, NAME_OF(answers, number));
         return 1;

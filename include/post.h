@@ -25,7 +25,7 @@
  *
  * What the calls need:
  * - Alignment: none. A buffer may begin at any address.
- * - Stack: less than 1 kB (measured with four leads: 712 bytes in a tick, 56 in setup). Where the
+ * - Stack: less than 1 kB (measured with four leads: 696 bytes in a tick, 72 in setup). Where the
  *   C library is bound at its first call, that call takes more; 16 kB are enough for a thread.
  * - Threads: the library has no memory of its own, so calls on different buffers may run at once.
  *   A host may keep several posts, each with its own state.
@@ -48,11 +48,13 @@ extern "C" {
  * Begins a post: writes the state of a post with this many leads, all of them idle. state_length
  * is POST_STATE_LENGTH(leads). resistance_bits are the 32 bits of a float, the resistance of the
  * cable in ohms, by which volts at the connector differ from volts at the meter: 0x3D800000, or
- * post_float_bits(0.0625F). Returns POST_DONE or a refusal from POST_REFUSED_LEADS to
- * POST_REFUSED_STATE_LENGTH.
+ * post_float_bits(0.0625F). The errors say how far off the meters may be, in tenths of a volt and
+ * of an ampere, 0 for exact ones; see "Inexact meters" below. Returns POST_DONE or one of setup's
+ * refusals.
  */
 uint32_t setup(uint32_t leads, uint32_t rated_volts, uint32_t rated_amperes,
-               uint32_t resistance_bits, uint8_t *state, size_t state_length);
+               uint32_t resistance_bits, uint32_t volts_error, uint32_t amperes_error,
+               uint8_t *state, size_t state_length);
 
 /*
  * Decides one tick, a tenth of a second, for all leads: changes the state and writes the output.
@@ -69,13 +71,15 @@ uint32_t tick(uint8_t *state, size_t state_length, const uint8_t *input, size_t 
 
 /*
  * The same two calls for a host: a NULL, with any length, is handed on as an empty buffer, so that
- * the library refuses it with its own number: 5 (or less) by post_setup; 6, 7 or 8 by post_tick.
+ * the library refuses it with its own number: 5, or one that is asked before it, by post_setup; 6,
+ * 7 or 8 by post_tick.
  */
 static inline uint32_t post_setup(uint32_t leads, uint32_t rated_volts, uint32_t rated_amperes,
-                                  uint32_t resistance_bits, uint8_t *state, size_t state_length) {
+                                  uint32_t resistance_bits, uint32_t volts_error,
+                                  uint32_t amperes_error, uint8_t *state, size_t state_length) {
     uint8_t none = 0;
-    return setup(leads, rated_volts, rated_amperes, resistance_bits, state ? state : &none,
-                 state ? state_length : 0);
+    return setup(leads, rated_volts, rated_amperes, resistance_bits, volts_error, amperes_error,
+                 state ? state : &none, state ? state_length : 0);
 }
 
 static inline uint32_t post_tick(uint8_t *state, size_t state_length, const uint8_t *input,
@@ -145,24 +149,25 @@ static inline float post_get_float(const uint8_t *place) {
  * 3. The lock stays locked until the connector has less than 10 V (Table A.17).
  *
  * What the numbers tell a host:
- * - 1 to 5, 7 and 8: a mistake in its code or its settings. The same call is refused again.
+ * - 1 to 5, 7, 8 and 32: a mistake in its code or its settings. The same call is refused again.
  * - 6: the state is damaged, of another edition or of a wrong length. Stay cut off. setup begins
  *   anew, but it forgets every lead, and the next tick drives no lock: only with all unplugged.
  * - 9: that input was not sound. Ages and silences have stood still, its frames were not heard; a
  *   tick with a sound input goes on from there.
  */
 
-/* What the calls return. */
+/* What the calls return; each call's refusals stand in the order of asking. */
 #define POST_DONE                     0
-#define POST_REFUSED_LEADS            1 /* setup: not POST_LEADS_MIN to POST_LEADS_MAX leads */
-#define POST_REFUSED_RATED_VOLTS      2 /* setup: not POST_RATED_VOLTS_MIN to _MAX */
-#define POST_REFUSED_RATED_AMPERES    3 /* setup: not POST_RATED_AMPERES_MIN to _MAX */
-#define POST_REFUSED_CABLE_RESISTANCE 4 /* setup: not a float from 0 to 1 */
-#define POST_REFUSED_STATE_LENGTH     5 /* setup: not POST_STATE_LENGTH(leads) bytes */
-#define POST_REFUSED_STATE            6 /* tick: not a good state, or of another length */
-#define POST_REFUSED_INPUT_LENGTH     7 /* tick: not POST_INPUT_LENGTH(leads) bytes */
-#define POST_REFUSED_OUTPUT_LENGTH    8 /* tick: not POST_OUTPUT_LENGTH(leads) bytes */
-#define POST_REFUSED_INPUT            9 /* tick: a spare bit or byte not 0, too many frames */
+#define POST_REFUSED_LEADS            1  /* setup: not POST_LEADS_MIN to POST_LEADS_MAX leads */
+#define POST_REFUSED_RATED_VOLTS      2  /* setup: not POST_RATED_VOLTS_MIN to _MAX */
+#define POST_REFUSED_RATED_AMPERES    3  /* setup: not POST_RATED_AMPERES_MIN to _MAX */
+#define POST_REFUSED_CABLE_RESISTANCE 4  /* setup: not a float from 0 to 1 */
+#define POST_REFUSED_METER_ERROR      32 /* setup: an error above POST_METER_ERROR_MAX */
+#define POST_REFUSED_STATE_LENGTH     5  /* setup: not POST_STATE_LENGTH(leads) bytes */
+#define POST_REFUSED_STATE            6  /* tick: not a good state, or of another length */
+#define POST_REFUSED_INPUT_LENGTH     7  /* tick: not POST_INPUT_LENGTH(leads) bytes */
+#define POST_REFUSED_OUTPUT_LENGTH    8  /* tick: not POST_OUTPUT_LENGTH(leads) bytes */
+#define POST_REFUSED_INPUT            9  /* tick: a spare bit or byte not 0, too many frames */
 
 /* What setup takes. */
 #define POST_LEADS_MIN         1
@@ -171,9 +176,33 @@ static inline float post_get_float(const uint8_t *place) {
 #define POST_RATED_VOLTS_MAX   500
 #define POST_RATED_AMPERES_MIN 1
 #define POST_RATED_AMPERES_MAX 200
+#define POST_METER_ERROR_MAX   50 /* tenths */
+
+/*
+ * Inexact meters. A reading stands for every value from its tenths less the error, at least 0, to
+ * its tenths plus the error: amperes by the ammeter's, volts at the connector by the voltmeter's
+ * alone, which comes on top of the cable's correction. Five limits are kept only if each of these
+ * values keeps them; so the error is added before they are asked:
+ * - those of reasons 16 and 17, POST_REASON_OVERVOLTAGE and POST_REASON_OVERCURRENT;
+ * - 10 V at the connector, in POST_PHASE_TEST_DISCHARGE and POST_PHASE_FINAL_DISCHARGE;
+ * - 4.9 A, in POST_PHASE_RAMP_DOWN.
+ * Nothing else knows the errors: neither whether a reading is good, nor what H'109 shows.
+ *
+ * What large errors bring, for whoever sets a post up; setup takes all of these:
+ * - A volts' error: a charge stops with 16 as soon as less than the error is left between reading
+ *   and threshold. Both discharges last until the reading is 10 V less the error, with 50 until it
+ *   is 5.0 V: the first for 5 s at most, then the lead stops with 28; the second, and with it the
+ *   lock, without a limit.
+ * - An amperes' error above 25: question 17 passes rated + 2.5 A less the error, which is less than
+ *   the rated amperes. A lead that gives these, by the meter, stops with 17.
+ * - An amperes' error of 50: no reading ends the ramp-down, which takes its 3 s (or ends by an
+ *   urgent stop).
+ * - 1 rated ampere and an amperes' error above 35, or 2 and one above 45: no reading passes
+ *   question 17, and every lead stops with it before it charges.
+ */
 
 /* Lengths in bytes. */
-#define POST_HEAD_LENGTH         8   /* of the state, before its lead records */
+#define POST_HEAD_LENGTH         10  /* of the state, before its lead records */
 #define POST_LEAD_LENGTH         32  /* one lead record of the state */
 #define POST_POWER_LIMIT_LENGTH  4   /* of the input, before its lead records */
 #define POST_INPUT_LEAD_LENGTH   104 /* one lead record of the input */
@@ -199,13 +228,15 @@ static inline float post_get_float(const uint8_t *place) {
  * Do so after a break of more than a tick too, as a state goes on as if no time had passed; energies
  * that are wanted are read from the stored bytes before.
  */
-#define POST_STATE_VERSION 2
+#define POST_STATE_VERSION 3
 
 /* State: its head. */
 #define POST_HEAD_LEADS            0
 #define POST_HEAD_RATED_AMPERES    1
 #define POST_HEAD_RATED_VOLTS      2 /* 2 bytes */
 #define POST_HEAD_CABLE_RESISTANCE 4 /* float */
+#define POST_HEAD_VOLTS_ERROR      8 /* tenths */
+#define POST_HEAD_AMPERES_ERROR    9 /* tenths */
 
 /* State: places in the record of a lead. */
 #define POST_LEAD_PHASE           0
@@ -274,7 +305,7 @@ static inline float post_get_float(const uint8_t *place) {
 
 /* Readings present; bits 3 to 7 are 0. The bytes of a missing one may hold anything. Volts and
  * amperes are good together: both present, 0 to 1000 V and 0 to 400 A. They are judged in tenths, of
- * volts at the connector and of amperes, rounded up. */
+ * volts at the connector and of amperes, rounded up; see "Inexact meters" too. */
 #define POST_PRESENT_VOLTS      0x01
 #define POST_PRESENT_AMPERES    0x02
 #define POST_PRESENT_INSULATION 0x04
@@ -375,8 +406,8 @@ static inline float post_get_float(const uint8_t *place) {
 #define POST_REASON_GROUND_FAULT         13 /* "leak trip" */
 #define POST_REASON_PERMISSION_OPEN      14 /* the car's permission wire opened; see above */
 #define POST_REASON_BAD_READING          15 /* volts or amperes missing or out of range */
-#define POST_REASON_OVERVOLTAGE          16 /* connector volts above the threshold */
-#define POST_REASON_OVERCURRENT          17 /* amperes above rated + 2.5 */
+#define POST_REASON_OVERVOLTAGE          16 /* connector volts and error above the threshold */
+#define POST_REASON_OVERCURRENT          17 /* amperes and error above rated + 2.5 */
 #define POST_REASON_UNLOCKED             18 /* the lock contact opened */
 #define POST_REASON_CAR_SILENT           19 /* no H'102 for ten ticks */
 #define POST_REASON_CAR_FAULT            20 /* reported by the car */

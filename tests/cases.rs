@@ -6,7 +6,7 @@ use std::io::{self, Write};
 use second::frames::{CONTACTOR_OPEN, ENABLED, IN_MINUTES};
 use second::inputs::LeadInput;
 use second::lead::contact::*;
-use second::post::{self, head_place, HEAD_BYTES};
+use second::post::{self, head_place};
 use shared::hex;
 use shared::numbers::{Numbers, PLAIN};
 use shared::post::Post;
@@ -18,7 +18,7 @@ fn main() {
 }
 
 fn whole_case() -> String {
-    let lines = "setup\t1\t500\t125\t00000000\ntick\t0000000021\n";
+    let lines = "setup\t1\t500\t125\t00000000\t0\t0\ntick\t0000000021\n";
     let mut answers = Vec::new();
     second::bench::run(lines.as_bytes(), &mut answers).expect("memory is read and written");
     String::from_utf8(answers).expect("answers are text")
@@ -43,7 +43,7 @@ fn setups() -> String {
         .set_up(&mut state);
         format!(
             "{number}\t{}\n",
-            hex(&state[head_place::RESISTANCE..HEAD_BYTES])
+            hex(&state[head_place::RESISTANCE..head_place::VOLTS_ERROR])
         )
     };
     RESISTANCES.map(line).concat()

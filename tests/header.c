@@ -1,8 +1,7 @@
 /*
  * Holds the numbers of include/post.h to the library. Whatever is done to a post here is done by
  * the header's names, and what the library answers has to stand where the names say; the answers
- * expected are those of document 01 and, for the energy, of document 02's request 2026-01. Prints
- * the number of checks, or the first that fails.
+ * expected are those of documents 01 and 02. Prints the number of checks, or the first that fails.
  */
 #include "header/trial.h"
 

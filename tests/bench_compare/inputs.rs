@@ -8,6 +8,7 @@ use std::{fs, thread};
 use lines::line::{answers, join, Line, SETUP, START};
 use lines::{long, numbers, odd, sessions};
 use shared::dice::Dice;
+use shared::numbers::Numbers;
 
 use crate::compare::{self, Comparison, Outcome};
 
@@ -25,7 +26,7 @@ impl Stock {
 
     /// A post set up and ticked, with lines between that change nothing.
     pub fn session(&self, leads: u32, ticks: usize, dice: &mut Dice) -> Vec<Line> {
-        sessions::roaming(leads, ticks, &self.no_lines, dice)
+        sessions::roaming(a_post(leads, dice), ticks, &self.no_lines, dice)
     }
 
     /// Lines of all kinds, of about this many bytes. One in two has no line feed at its end.
@@ -45,16 +46,24 @@ impl Stock {
         match dice.below(40) {
             0 => {
                 let forms = long::forms(dice.pick(&long::LENGTHS[..11]), dice);
-                vec![forms[dice.below(12) as usize].clone()]
+                vec![forms[dice.below(forms.len() as u32) as usize].clone()]
             }
             1..10 => vec![self.odd[dice.below(self.odd.len() as u32) as usize].clone()],
-            10..15 => vec![numbers::line(&numbers::good(leads, dice))],
+            10..15 => vec![numbers::line(&a_post(leads, dice))],
             15..20 => {
                 let number = dice.pick(&numbers::refusals());
                 vec![numbers::refused(number, leads, dice)]
             }
             _ => self.session(leads, dice.below(40) as usize, dice),
         }
+    }
+}
+
+/// One in two has errors.
+fn a_post(leads: u32, dice: &mut Dice) -> Numbers {
+    match dice.one_in(2) {
+        true => numbers::good_with_errors(leads, dice),
+        false => numbers::good(leads, dice),
     }
 }
 
@@ -112,7 +121,8 @@ fn draw_sizes(dice: &mut Dice) -> Vec<usize> {
 
 /// Bytes that make up no lines but by chance: any, or of few kinds.
 fn noise(comparison: &mut Comparison, dice: &mut Dice) -> Outcome {
-    const WORDS: &str = "setup tick \t \t \t \t \n \n 1 2 4 50 500 125 00000000 3F000000 00 21 \r";
+    const WORDS: &str =
+        "setup setup\t1\t500\t125\t00000000 tick \t \t \t \t \n \n 1 2 4 50 51 500 125 00000000 3F000000 00 21 \r";
     let length = 1 + dice.below(200_000) as usize;
     let any: Vec<u8> = (0..length).map(|_| dice.byte()).collect();
     comparison.same("any bytes", &any)?;

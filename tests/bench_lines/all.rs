@@ -1,10 +1,11 @@
 //! The lines of `bench_lines` in their order.
 
+use second::bench::LONGEST_LINE;
 use second::inputs::LeadInput;
 use second::lead::contact::{PLUG, START_BUTTON};
 use second::lead::input_place::OHMS;
 use second::lead::{QUESTIONS, REASON_NONE};
-use second::post::{input_bytes, ALLOWANCE_BYTES};
+use second::post::{input_bytes, ALLOWANCE_BYTES, REFUSED_ERROR};
 use shared::dice::Dice;
 use shared::post::input;
 
@@ -54,13 +55,35 @@ fn lines() -> Vec<Line> {
         let unchanging = vec![refused::any(questions.len(), &no_lines, dice)];
         lines.extend(sessions::stopped(phase, &questions, unchanging, dice));
     }
-    // With dice of its own, so that the lines behind it are what they are without it.
+    // With dice of their own, so that the lines behind them are what they are without them.
     lines.extend(sessions::withdrawn(&mut Dice::new(2026_06)));
-    for (leads, ticks) in [(1, 20), (2, 8), (3, 4), (4, 2)] {
-        lines.extend(sessions::roaming(leads, ticks, &no_lines, dice));
+    lines.extend(with_errors(&no_lines, &mut Dice::new(2026_08)));
+    for (leads, ticks) in ROAMING {
+        let numbers = numbers::good(leads, dice);
+        lines.extend(sessions::roaming(numbers, ticks, &no_lines, dice));
     }
     // The last one is carried out, without its line feed.
     lines.extend(long_lines(dice));
+    lines
+}
+
+/// So many leads, for so many ticks.
+const ROAMING: [(u32, usize); 4] = [(1, 20), (2, 8), (3, 4), (4, 2)];
+
+/// Setups with errors, taken or not, and posts that have them.
+fn with_errors(no_lines: &[Line], dice: &mut Dice) -> Vec<Line> {
+    let mut lines = Vec::new();
+    let zeros = long::zeros_of_errors(LONGEST_LINE);
+    for setup in numbers::edges_of_errors().into_iter().chain(zeros) {
+        lines.extend([setup, probe(dice)]);
+    }
+    lines.extend(sessions::volts_off(dice));
+    lines.extend(sessions::amperes_off(dice));
+    lines.extend(sessions::ended_by_age(dice));
+    for (leads, ticks) in ROAMING {
+        let numbers = numbers::good_with_errors(leads, dice);
+        lines.extend(sessions::roaming(numbers, ticks, no_lines, dice));
+    }
     lines
 }
 
@@ -75,9 +98,12 @@ fn before_a_setup(no_lines: &[Line], dice: &mut Dice) -> Vec<Line> {
     let mut lines = vec![probe(dice), b"tick\t".to_vec()];
     lines.extend(no_lines.iter().step_by(29).cloned());
     lines.push(refused::longest(0, dice));
-    for number in numbers::refusals() {
+    for number in numbers::refusals_of_fields() {
         lines.extend([numbers::refused(number, 1, dice), probe(dice)]);
     }
+    // With dice of its own, so that the lines behind it are what they are without it.
+    let own = &mut Dice::new(2026_08);
+    lines.extend([numbers::refused(REFUSED_ERROR, 1, own), probe(own)]);
     lines.extend([format!("{SETUP}\r").into_bytes(), probe(dice)]);
     lines
 }

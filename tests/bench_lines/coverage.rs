@@ -8,11 +8,17 @@ use lines::{long, numbers, odd};
 use second::bench::LONGEST_LINE;
 use second::lead::input_place::VOLTS;
 use second::lead::output_place::{COMMAND, PHASE, REASON};
-use second::lead::{Input, INPUT_BYTES, LAST_PHASE, OUTPUT_BYTES, QUESTIONS, REASON_NONE};
+use second::lead::{
+    Input, Lead, INPUT_BYTES, LAST_PHASE, OUTPUT_BYTES, QUESTIONS, RAMP_DOWN_LIMIT, REASON_NONE,
+    SAFE_AMPERES_IN_TENTHS, SAFE_VOLTS_IN_TENTHS,
+};
 use second::post::{input_bytes, ALLOWANCE_BYTES, REFUSED_INPUT, REFUSED_INPUT_LENGTH};
+use second::readings::{Tenths, MOST_ERROR};
 use second::sharing::MOST_LEADS;
-use shared::numbers::PLAIN;
+use shared::meter::Shown;
+use shared::numbers::{Numbers, PLAIN};
 use shared::post::Post;
+use shared::stops::Standing;
 
 /// Answers that are plain from document 01, of a tick that is carried out the beginning; and their
 /// lines.
@@ -22,7 +28,7 @@ const ANSWERS: [(&str, &[&str]); 2] = [
     ("0\t", &["tick\t"]),
 ];
 
-/// Setups, likewise: leads, volts, amperes and resistance.
+/// Setups, likewise: leads, volts, amperes and resistance. The errors are 0.
 #[rustfmt::skip]
 const SETUPS: [(&str, &[&str]); 6] = [
     ("0", &["4 500 125 00000000", "1 50 125 00000000", "1 500 1 00000000", "1 500 200 00000000", "1 500 125 80000000",
@@ -36,6 +42,25 @@ const SETUPS: [(&str, &[&str]); 6] = [
             "1 0 65536 00000000", "1 500 0 0000000"]),
 ];
 
+/// Likewise, with the errors.
+#[rustfmt::skip]
+const SETUPS_WITH_ERRORS: [(&str, &[&str]); 7] = [
+    ("0", &["1 500 125 00000000 1 0", "1 500 125 00000000 0 1", "1 500 125 00000000 50 0", "1 500 125 00000000 0 50",
+            "1 500 125 00000000 50 50", "4 50 1 3F800000 50 50", "1 500 125 00000000 00 0", "1 500 125 00000000 0 00"]),
+    ("32", &["1 500 125 00000000 51 0", "1 500 125 00000000 0 51", "1 500 125 00000000 51 51", "1 500 125 00000000 51 50",
+             "1 500 125 00000000 50 51", "1 500 125 00000000 256 0", "1 500 125 00000000 0 256", "1 500 125 00000000 306 0",
+             "1 500 125 00000000 0 306", "1 500 125 00000000 65535 0", "1 500 125 00000000 0 65535", "1 500 125 00000000 0065535 0",
+             "1 500 125 00000000 0 0065535", "4 50 1 3F800000 51 50"]),
+    ("1", &["0 0 0 7FC00000 51 51"]),
+    ("2", &["4 0 0 7FC00000 51 51"]),
+    ("3", &["4 50 0 7FC00000 51 51"]),
+    ("4", &["4 50 1 7FC00000 51 51"]),
+    ("?", &["1 500 125 00000000", "1 500 125 00000000 0", "1 500 125 00000000 0 0 0", "1 500 125 00000000  0", "1 500 125 00000000 0 ",
+            "1 500 125 00000000 65536 0", "1 500 125 00000000 0 65536", "1 500 125 00000000 +0 0", "1 500 125 00000000 0 -0",
+            "1 500 125 00000000 A0 0", "1 500 125 00000000 0 A0", "0 500 125 00000000 65536 0", "1 500 125 00000000 51 65536",
+            "1 500 125 00000000  51", "1 500 125 7FC00000 0 -1"]),
+];
+
 #[rustfmt::skip]
 const KINDS: [&str; 12] = [
     "lines", "of a fit size", "last line without its line feed", "every byte", "? before any setup", "setup answered 0",
@@ -44,6 +69,51 @@ const KINDS: [&str; 12] = [
 ];
 const FALLS_AND_RISES: &str = "one command falls in phase 6, another rises";
 const ONE_ZERO_TOO_MANY: &str = "1001 characters, accepted but for one zero";
+
+/// A good reading of a lead in a tick.
+struct Judged {
+    standing: Standing,
+    before: Lead,
+    after: Lead,
+    volts: Shown,
+    amperes: Shown,
+}
+
+impl Judged {
+    fn stays_in(&self, phase: u8) -> bool {
+        self.before.phase == phase && self.after.phase == phase
+    }
+
+    fn leaves(&self, phase: u8) -> bool {
+        self.before.phase == phase && self.after.phase != phase
+    }
+
+    fn stops_for(&self, reason: u8) -> bool {
+        self.before.reason == REASON_NONE && self.after.reason == reason
+    }
+
+    /// Ended by nothing else.
+    fn has_ramped_down(&self) -> bool {
+        self.before.command == 0 && self.before.age < RAMP_DOWN_LIMIT
+    }
+}
+
+/// What errors make of readings, on either side of each limit.
+#[rustfmt::skip]
+const KINDS_OF_ERRORS: [(&str, fn(&Judged) -> bool); 11] = [
+    ("phase 4 stays by the volts' error", |of| of.stays_in(4) && of.volts.is_above_by_error(SAFE_VOLTS_IN_TENTHS)),
+    ("phase 4 ends with an upper end of 10 V", |of| of.leaves(4) && of.volts.is_at_by_error(SAFE_VOLTS_IN_TENTHS)),
+    ("phase 9 stays by the volts' error", |of| of.stays_in(9) && of.volts.is_above_by_error(SAFE_VOLTS_IN_TENTHS)),
+    ("phase 9 ends with an upper end of 10 V", |of| of.leaves(9) && of.volts.is_at_by_error(SAFE_VOLTS_IN_TENTHS)),
+    ("phase 6 goes on with an upper end at the threshold", |of| of.stays_in(6) && of.volts.is_at_by_error(of.standing.most_volts())),
+    ("reason 16 by the volts' error", |of| of.stops_for(16) && of.volts.is_above_by_error(of.standing.most_volts())),
+    ("phase 6 goes on with an upper end of rated + 2.5 A", |of| of.stays_in(6) && of.amperes.is_at_by_error(of.standing.most_amperes())),
+    ("reason 17 by the amperes' error", |of| of.stops_for(17) && of.amperes.is_above_by_error(of.standing.most_amperes())),
+    ("phase 7 stays by the amperes' error", |of| of.stays_in(7) && of.has_ramped_down() && of.amperes.is_above_by_error(SAFE_AMPERES_IN_TENTHS)),
+    ("phase 7 ends with an upper end of 4.9 A", |of| of.leaves(7) && of.has_ramped_down() && of.amperes.is_at_by_error(SAFE_AMPERES_IN_TENTHS)),
+    ("phase 7 ends by its age at 0 A, error 50", |of| of.leaves(7) && of.before.age == RAMP_DOWN_LIMIT
+        && of.amperes.tenths == Tenths(0) && of.amperes.error == MOST_ERROR),
+];
 
 /// `#` is a number of leads, or a lead.
 #[rustfmt::skip]
@@ -69,6 +139,7 @@ fn kinds() -> Vec<String> {
     let unchanging = [&setups[..], &ticks, &others].concat();
     let mut all = vec![
         each("#", KINDS),
+        each("#", KINDS_OF_ERRORS.map(|(text, _)| text)),
         each("tick before a post, after #", &setups),
         each("charging goes on after #", &unchanging),
         unchanging,
@@ -92,6 +163,11 @@ fn known_answers() -> Vec<Known> {
         ("999 characters, tick answered 7", long::tick(999), "7"),
         ("1000 characters, accepted", long::setup(1_000, 1), "0"),
         (ONE_ZERO_TOO_MANY, long::setup(1_001, 0), "?"),
+        (
+            "1000 characters, accepted, zeros of an error",
+            long::setup(1_000, 5),
+            "0",
+        ),
     ];
     let named = |(name, line, answer): (&str, Line, _)| (name.to_string(), line, answer);
     let mut all: Vec<Known> = long_lines.map(named).to_vec();
@@ -106,6 +182,11 @@ fn known_answers() -> Vec<Known> {
     }
     for (answer, setups) in SETUPS {
         for setup in setups {
+            add(format!("setup {setup} 0 0").replace(' ', "\t"), answer);
+        }
+    }
+    for (answer, setups) in SETUPS_WITH_ERRORS {
+        for setup in setups {
             add(format!("setup {setup}").replace(' ', "\t"), answer);
         }
     }
@@ -116,8 +197,8 @@ fn known_answers() -> Vec<Known> {
 struct Coverage {
     counts: BTreeMap<String, usize>,
     known: Vec<Known>,
-    /// Of the post set up, 0 without one.
-    leads: usize,
+    /// The one set up.
+    post: Option<Post>,
     /// What the newest tick showed.
     shown: Vec<u8>,
     /// The kinds of the lines since then.
@@ -187,9 +268,9 @@ impl Coverage {
         self.count_length(line, &kind);
         self.count_known(line, answer);
         match (fields[0], number) {
-            (b"setup", "0") => self.leads = ascii(fields[1]).parse().expect("leads"),
+            (b"setup", "0") => self.post = Some(Post::set_up(&numbers_of(&fields))),
             (b"tick", "0") => return self.count_tick(ascii(fields[1]), &answer["0\t".len()..]),
-            (b"tick", "?") if self.leads == 0 && understood(line) => {
+            (b"tick", "?") if self.post.is_none() && understood(line) => {
                 let last = self.between.last().cloned().unwrap_or_default();
                 let is_setup = last.starts_with("setup");
                 self.count(is_setup, "tick before a post, after #", last);
@@ -204,7 +285,7 @@ impl Coverage {
 
     /// Before a setup every tick is answered with `?`.
     fn count_known(&mut self, line: &[u8], answer: &str) {
-        let is_same = |(_, known, _): &&Known| known == line && self.leads > 0;
+        let is_same = |(_, known, _): &&Known| known == line && self.post.is_some();
         let known: Vec<Known> = self.known.iter().filter(is_same).cloned().collect();
         for (name, _, expected) in known {
             let is_right = answer.split_inclusive('\t').next() == Some(expected);
@@ -239,8 +320,9 @@ impl Coverage {
             );
             self.count(lead[COMMAND] > 0, "command above 0 in phase #", phase);
         }
+        self.count_readings(bytes_of(hex));
         let length = hex.len() / 2;
-        let whole = input_bytes(self.leads);
+        let whole = input_bytes(leads.len());
         self.count(true, "leads #", leads.len());
         self.count(length == 0, "# leads, no input", leads.len());
         self.count(length == whole, "# leads, whole input", leads.len());
@@ -253,6 +335,37 @@ impl Coverage {
         self.count(!capital && small, "letters: small", "");
         self.count_commands(&charging(&self.shown), &charging(&shown));
         self.shown = shown;
+    }
+
+    /// Missing bytes are 0.
+    fn count_readings(&mut self, mut input: Vec<u8>) {
+        let mut post = self.post.take().expect("a tick that is carried out");
+        let before = post.leads();
+        input.resize(input_bytes(before.len()), 0);
+        post.tick(&input);
+        let (records, _) = input[ALLOWANCE_BYTES..].as_chunks();
+        for ((before, after), record) in before.into_iter().zip(post.leads()).zip(records) {
+            let rating = post.rating;
+            let read = Input::read(record, &rating).expect("a tick that is carried out");
+            let Some(measured) = read.measured else {
+                continue;
+            };
+            let judged = Judged {
+                standing: Standing {
+                    phase: before.phase,
+                    threshold: before.threshold,
+                    rating,
+                },
+                before,
+                after,
+                volts: Shown::volts(measured, &rating),
+                amperes: Shown::amperes(measured, &rating),
+            };
+            for (label, holds) in KINDS_OF_ERRORS {
+                self.count(holds(&judged), label, "");
+            }
+        }
+        self.post = Some(post);
     }
 
     /// Those in phase 6, in the tick before and in this one.
@@ -274,7 +387,7 @@ impl Coverage {
     }
 
     fn count_refused_tick(&mut self, input: &[u8], number: &str) {
-        let leads = self.leads;
+        let leads = self.post.as_ref().map_or(0, |post| post.leads().len());
         let flaws = flaws(input);
         let is_too_long = number == REFUSED_INPUT_LENGTH.to_string();
         let is_by_one = is_too_long && input.len() == input_bytes(leads) + 1;
@@ -310,6 +423,20 @@ fn flaws(input: &[u8]) -> Vec<(usize, usize)> {
         }
     }
     flaws
+}
+
+/// Of a setup that is accepted.
+fn numbers_of(fields: &[&[u8]]) -> Numbers {
+    let decimal = |place: usize| ascii(fields[place]).parse().expect("a number");
+    let [leads, volts, amperes, volts_error, amperes_error] = [1, 2, 3, 5, 6].map(decimal);
+    Numbers {
+        leads,
+        volts,
+        amperes,
+        resistance: u32::from_str_radix(ascii(fields[4]), 16).expect("digits"),
+        volts_error,
+        amperes_error,
+    }
 }
 
 fn ascii(bytes: &[u8]) -> &str {

@@ -5,7 +5,7 @@ use shared::dice::Dice;
 pub type Line = Vec<u8>;
 
 /// The two lines of document 01's whole case: a post, and the start of its lead.
-pub const SETUP: &str = "setup\t1\t500\t125\t00000000";
+pub const SETUP: &str = "setup\t1\t500\t125\t00000000\t0\t0";
 pub const START: &str = "tick\t0000000021";
 
 /// The whole case's setup with these fields in place of its first ones.

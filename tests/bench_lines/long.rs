@@ -33,10 +33,11 @@ pub fn faults() -> Vec<(String, Line)> {
     faults.map(named).to_vec()
 }
 
-/// Seven lines of this length, the first four understood but for it, and longer ones with a line at
-/// one end of what is none.
-pub fn forms(length: usize, dice: &mut Dice) -> [Line; 12] {
+/// Seven lines of this length, the first four understood but for it, longer ones with a line at one
+/// end of what is none, and two of this length that are understood but for it.
+pub fn forms(length: usize, dice: &mut Dice) -> [Line; 14] {
     let mut rubbish = |byte: fn(u8) -> u8| (0..length).map(|_| byte(dice.byte())).collect();
+    let [volts_error, amperes_error] = zeros_of_errors(length);
     [
         tick(length),
         setup(length, 0),
@@ -50,7 +51,14 @@ pub fn forms(length: usize, dice: &mut Dice) -> [Line; 12] {
         filled(START, length, b'x'),
         filled(SETUP, length, b'x'),
         filled(setup(MOST, 1), length.max(MOST + 1), b'0'),
+        volts_error,
+        amperes_error,
     ]
+}
+
+/// Setups with zeros before one of their errors.
+pub fn zeros_of_errors(length: usize) -> [Line; 2] {
+    [4, 5].map(|place| setup(length, place))
 }
 
 /// A setup with zeros before one of its numbers, by the place of its field.

@@ -24,7 +24,8 @@ const OF_LINES: &[(&str, &str, &str)] = &[
     ("no word", "^setup", ""), ("word in capitals", "^tick", "TICK"), ("word in capitals", "^setup", "SETUP"),
     ("word with one capital", "^t", "T"), ("word with one capital", "p\t", "P\t"), ("tic", "^tick", "tic"), ("tickx", "^tick", "tickx"),
     ("ticks", "^tick", "ticks"), ("ttick", "^tick", "ttick"), ("setu", "^setup", "setu"), ("setups", "^setup", "setups"),
-    ("setup for tick", "^tick", "setup"), ("tick for setup", "^setup", "tick"),
+    ("setup for tick", "^tick", "setup"), ("tick for setup", "^setup", "tick"), ("no errors", "\t0\t0$", "$"),
+    ("one error", "\t0\t0$", "\t0$"), ("three errors", "\t0\t0$", "\t0\t0\t0$"), ("errors before the resistance", "00000000\t0\t0", "0\t0\t00000000"),
 ];
 
 /// Of a field: `#` is what stood there, `~` so much of its end that the length stays, and a power
@@ -50,19 +51,22 @@ const OF_HEX: &[OfField] = &[
 
 /// The fields of setup, then that of tick, with their faults.
 #[rustfmt::skip]
-const FIELDS: [(&str, &str, usize, [&[OfField]; 2]); 5] = [
+const FIELDS: [(&str, &str, usize, [&[OfField]; 2]); 7] = [
     ("leads", SETUP, 1, [OF_DECIMALS, &[]]),
     ("volts", SETUP, 2, [OF_DECIMALS, &[]]),
     ("amperes", SETUP, 3, [OF_DECIMALS, &[]]),
     ("resistance", SETUP, 4, [OF_HEX, &[("none", ""), ("7 digits", "0000000"), ("9 digits", "#0"), ("16 digits", "##")]]),
+    ("volts' error", SETUP, 5, [OF_DECIMALS, &[]]),
+    ("amperes' error", SETUP, 6, [OF_DECIMALS, &[]]),
     ("input", START, 1, [OF_HEX, &[("a digit too many", "#0"), ("a digit too many", "0")]]),
 ];
 
 /// A field that is none counts before a number that setup would refuse.
 #[rustfmt::skip]
-const NONE_AND_REFUSED: [[&str; 4]; 5] = [
-    ["0", "65536", "125", "00000000"], ["0", "500", "125", "0000000g"], ["1", "0", "65536", "00000000"],
-    ["1", "500", "0", "0000000"], ["1", "501", "+125", "00000000"],
+const NONE_AND_REFUSED: [[&str; 6]; 9] = [
+    ["0", "65536", "125", "00000000", "0", "0"], ["0", "500", "125", "0000000g", "0", "0"], ["1", "0", "65536", "00000000", "0", "0"],
+    ["1", "500", "0", "0000000", "0", "0"], ["1", "501", "+125", "00000000", "0", "0"], ["0", "500", "125", "00000000", "65536", "0"],
+    ["1", "500", "125", "7FC00000", "0", "-1"], ["1", "500", "125", "00000000", "51", "65536"], ["1", "500", "125", "00000000", "", "51"],
 ];
 
 /// A number as it may be written, and eight digits of either case.
@@ -79,7 +83,7 @@ pub fn lines() -> Vec<Line> {
     let mut lines: Vec<Line> = OTHERS.map(Line::from).to_vec();
     lines.extend(faults().into_iter().map(|(_, line)| line));
     lines.extend(NONE_AND_REFUSED.map(|fields| line::setup(&fields)));
-    for place in 1..=3 {
+    for place in [1, 2, 3, 5, 6] {
         lines.extend(DECIMALS.map(|text| with_field(SETUP, place, text)));
     }
     lines.extend(RESISTANCES.map(|text| with_field(SETUP, 4, text)));

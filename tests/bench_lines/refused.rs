@@ -47,7 +47,10 @@ pub fn flawed(lead: usize, (at, byte): (usize, u8), dice: &mut Dice) -> Line {
 pub fn any(leads: usize, no_lines: &[Line], dice: &mut Dice) -> Line {
     let any = dice.byte();
     match dice.below(8) {
-        0..=3 => numbers::refused(dice.pick(&numbers::refusals()), 1 + dice.below(4), dice),
+        0..=3 => {
+            let refusal = dice.pick(&numbers::refusals_of_fields());
+            numbers::refused(refusal, 1 + dice.below(4), dice)
+        }
         4 => surplus(leads, any, dice),
         5 => flawed(usize::from(any) % leads, dice.pick(&flaws()), dice),
         _ => no_lines[dice.below(no_lines.len() as u32) as usize].clone(),
@@ -65,7 +68,7 @@ pub fn each_kind(dice: &mut Dice) -> Vec<Line> {
         flawed(1, (input_place::SPARE, 1), dice),
     ];
     let leads = [2, 1, 4, 3].into_iter().cycle();
-    for (refusal, leads) in numbers::refusals().into_iter().zip(leads) {
+    for (refusal, leads) in numbers::refusals_of_fields().into_iter().zip(leads) {
         lines.push(numbers::refused(refusal, leads, dice));
     }
     lines

@@ -2,6 +2,8 @@
 
 use second::frames::IN_MINUTES;
 use second::lead::{Lead, REASON_NONE};
+use second::post::REFUSED_ERROR;
+use second::readings::MOST_ERROR;
 use shared::dice::Dice;
 use shared::lead_input::{anything, build};
 use shared::numbers::{Numbers, PLAIN};
@@ -45,7 +47,7 @@ impl<'a> Session<'a> {
     fn scenes(&self) -> Vec<Scene> {
         let onward = |(lead, car): (&Lead, &Car)| match lead.phase {
             0 if lead.reason != REASON_NONE => Scene::empty(0),
-            phase => Scene::onward(phase, lead.command, car),
+            phase => Scene::onward(phase, lead.command, car).less_errors(&self.post.rating),
         };
         let leads = self.post.leads();
         leads.iter().zip(&self.cars).map(onward).collect()
@@ -55,6 +57,13 @@ impl<'a> Session<'a> {
         let input = post::input(self.allowance, scenes.iter().map(Scene::build));
         self.lines.push(line::tick(&input, self.dice));
         self.post.tick(&input);
+    }
+
+    /// A tick in which a lead's meters show this.
+    fn show(&mut self, at: usize, volts: f32, amperes: f32) {
+        let mut scenes = self.scenes();
+        scenes[at] = scenes[at].reads(volts, amperes);
+        self.tick(&scenes);
     }
 
     /// Elsewhere a tick would take the leads on.
@@ -93,7 +102,8 @@ impl<'a> Session<'a> {
             let standing = self.standing(at);
             let mut scenes = self.scenes();
             if takes_time(question) {
-                scenes[at] = Scene::waiting(lead.phase, lead.command, &self.cars[at]);
+                let waiting = Scene::waiting(lead.phase, lead.command, &self.cars[at]);
+                scenes[at] = waiting.less_errors(&self.post.rating);
                 let flaw = self.dice.pick(&refused::flaws());
                 self.lines.push(refused::flawed(at, flaw, self.dice));
             }
@@ -110,7 +120,12 @@ pub fn stopped(phase: u8, questions: &[u8], unchanging: Vec<Line>, dice: &mut Di
     let leads = questions.len();
     let amperes = dice.pick(&[60, 125, 200]);
     let ohms = dice.pick(&[0.0f32, -0.0, 0.333]).to_bits();
-    let numbers = Numbers::of([leads as u32, PLAIN.volts, amperes, ohms]);
+    let numbers = Numbers {
+        leads: leads as u32,
+        amperes,
+        resistance: ohms,
+        ..PLAIN
+    };
     let time = (IN_MINUTES, if questions.contains(&29) { 0 } else { 10 });
     let mut session = Session::begin(numbers, time, dice);
     session.to(phase);
@@ -146,10 +161,79 @@ pub fn withdrawn(dice: &mut Dice) -> Vec<Line> {
     session.lines
 }
 
+/// The volts may be 5 V more than shown (2026-08): in 4 and in 9 a lead waits until it shows 5 V, and
+/// it charges at 5 V below its threshold, where a tenth more is a stop. The amperes' error adds
+/// nothing by way of the cable.
+pub fn volts_off(dice: &mut Dice) -> Vec<Line> {
+    let numbers = Numbers {
+        resistance: 0.5f32.to_bits(),
+        volts_error: MOST_ERROR.0,
+        amperes_error: 3,
+        ..PLAIN
+    };
+    let mut session = Session::begin(numbers, (IN_MINUTES, 10), dice);
+    for (phase, shown) in [
+        (4, &[10.0, 5.0625, 5.0][..]),
+        (6, &[395.0, 395.0625]),
+        (9, &[10.0, 5.0625, 5.0]),
+    ] {
+        session.to(phase);
+        for &volts in shown {
+            session.show(0, volts, 0.0);
+        }
+    }
+    session.to(0);
+    session.lines
+}
+
+/// The amperes may be 2 A more than shown (2026-08): question 17 stops one lead at a tenth above
+/// 125.5 A, and 2.9 A end the other's phase 7. A setup that is refused for its errors changes nothing.
+pub fn amperes_off(dice: &mut Dice) -> Vec<Line> {
+    let numbers = Numbers {
+        leads: 2,
+        volts_error: 9,
+        amperes_error: 20,
+        ..PLAIN
+    };
+    let mut session = Session::begin(numbers, (IN_MINUTES, 10), dice);
+    session.to(6);
+    session.stay_in_6();
+    let refused = numbers::refused(REFUSED_ERROR, numbers.leads, session.dice);
+    session.lines.push(refused);
+    session.stay_in_6();
+    for amperes in [125.5, 125.5625] {
+        session.show(0, 300.0, amperes);
+    }
+    session.stop(24, 1);
+    while session.post.leads()[1].command > 0 {
+        session.tick(&session.scenes());
+    }
+    for amperes in [4.75, 2.9375, 2.875] {
+        session.show(1, 150.0, amperes);
+    }
+    session.to(0);
+    session.lines
+}
+
+/// With 5 A more than shown (2026-08), no current ends phase 7: its age does.
+pub fn ended_by_age(dice: &mut Dice) -> Vec<Line> {
+    let numbers = Numbers {
+        volts_error: 7,
+        amperes_error: MOST_ERROR.0,
+        ..PLAIN
+    };
+    let mut session = Session::begin(numbers, (IN_MINUTES, 10), dice);
+    session.to(6);
+    session.stay_in_6();
+    session.stop(24, 0);
+    session.to(0);
+    session.lines
+}
+
 /// Leads with plans of their own, with other frames and stale values around what they say; now and
 /// then any bytes at all, or a line that changes nothing.
-pub fn roaming(leads: u32, ticks: usize, no_lines: &[Line], dice: &mut Dice) -> Vec<Line> {
-    let numbers = numbers::good(leads, dice);
+pub fn roaming(numbers: Numbers, ticks: usize, no_lines: &[Line], dice: &mut Dice) -> Vec<Line> {
+    let leads = numbers.leads;
     let mut lines = vec![numbers::line(&numbers)];
     let mut post = Post::set_up(&numbers);
     let eager = dice.one_in(2);

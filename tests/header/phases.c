@@ -1,4 +1,5 @@
-/* Every phase, with all that a lead shows in it: the whole output, both frames included. */
+/* Every phase, with all that a lead shows in it: the whole output, both frames included. Volts and
+ * amperes that a move wants to be low are as high as their meter's error allows. */
 #include "trial.h"
 
 #include <string.h>
@@ -35,17 +36,17 @@ const struct row way[PHASES] = {
      SEND + D1 + LOCK, WAITING, 400, 400, 398, 4, 12},
     {POST_PHASE_TEST_DISCHARGE, {{LOCKED, MEASURED, OPEN}, 399, 4, 40000, TALKS},
      SEND + D1 + LOCK, WAITING, 0, 400, 398, 4, 12},
-    {POST_PHASE_CONTACTOR_CLOSING, {{LOCKED, METER, OPEN}, 12, 8, 0, TALKS},
+    {POST_PHASE_CONTACTOR_CLOSING, {{LOCKED, METER, OPEN}, 11.625F, 8, 0, TALKS},
      SEND + D1 + D2 + LOCK, WAITING, 0, 400, 10, 8, 12},
     {POST_PHASE_CHARGING, {{LOCKED, METER, CLOSED}, 395.25F, 59.5F, 0, TALKS},
      SEND + D1 + D2 + LOCK, CHARGING, 0, 400, 381, 60, 12},
     {POST_PHASE_RAMP_DOWN, {{STOPPED, METER, CLOSED}, 395, 60, 0, TALKS},
      SEND + D1 + D2 + LOCK, RAMPING, 0, 400, 380, 60, 0},
-    {POST_PHASE_WELD_CHECK, {{LOCKED, METER, CLOSED}, 395, 4.75F, 0, TALKS},
+    {POST_PHASE_WELD_CHECK, {{LOCKED, METER, CLOSED}, 395, 4.625F, 0, TALKS},
      SEND + D1 + D2 + LOCK, WAITING, 0, 400, 394, 5, 0},
     {POST_PHASE_FINAL_DISCHARGE, {{LOCKED, METER, OPEN}, 395, 4, 0, TALKS},
      SEND + LOCK, WAITING, 0, 400, 394, 4, 0},
-    {POST_PHASE_ENDED, {{PLUGGED, METER, OPEN}, 8, 4, 0, TALKS}, 0, 0, 0, 0, 0, 0, 0},
+    {POST_PHASE_ENDED, {{PLUGGED, METER, OPEN}, 10.625F, 4, 0, TALKS}, 0, 0, 0, 0, 0, 0, 0},
 };
 
 static void check_output(const struct row *row, uint8_t reason) {

@@ -80,6 +80,8 @@ static void try_head(void) {
     CHECK(state[POST_HEAD_RATED_AMPERES], RATED_AMPERES);
     CHECK(post_get_u16(state + POST_HEAD_RATED_VOLTS), RATED_VOLTS);
     CHECK(post_get_u32(state + POST_HEAD_CABLE_RESISTANCE), CABLE_RESISTANCE);
+    CHECK(state[POST_HEAD_VOLTS_ERROR], VOLTS_ERROR);
+    CHECK(state[POST_HEAD_AMPERES_ERROR], AMPERES_ERROR);
 }
 
 /* A tick without H'102 in a phase, and the silence before and after it. */
@@ -197,7 +199,7 @@ static void try_unseen(void) {
     CHECK(POST_H109, 0x109);
     CHECK(POST_PRESENT_VOLTS < POST_PRESENT_AMPERES, 1);
     CHECK(POST_WATT_TICKS_PER_KWH, 1000 * 3600 * 10);
-    CHECK(POST_STATE_VERSION, 2);
+    CHECK(POST_STATE_VERSION, 3);
 }
 
 void try_records(void) {

@@ -73,8 +73,8 @@ uint32_t tick_scene(const struct scene *scene) {
 }
 
 void set_up(void) {
-    CHECK(post_setup(LEADS, RATED_VOLTS, RATED_AMPERES, CABLE_RESISTANCE, state,
-                     POST_STATE_LENGTH(LEADS)),
+    CHECK(post_setup(LEADS, RATED_VOLTS, RATED_AMPERES, CABLE_RESISTANCE, VOLTS_ERROR,
+                     AMPERES_ERROR, state, POST_STATE_LENGTH(LEADS)),
           POST_DONE);
 }
 

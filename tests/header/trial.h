@@ -8,6 +8,7 @@
 /* The second of two leads is tried, so that lengths count, and every figure is another one. */
 enum { LEADS = 2, LEAD = 1, RATED_VOLTS = 400, RATED_AMPERES = 125, USUAL_LIMIT = 100000 };
 enum { CABLE_RESISTANCE = 0x3E800000 }; /* 0.25 ohms as a float */
+enum { VOLTS_ERROR = 3, AMPERES_ERROR = 2 }; /* tenths */
 enum { MAXIMUM_VOLTAGE = 430, TARGET_VOLTAGE = 380, REQUEST = 100 };
 enum { TIME_TENS = 12, TIME_MINUTES = 34 };
 enum { UNUSED_FAULTS = 0xA0, UNUSED_STATUS = 0x40 }; /* bits that nothing is asked about */

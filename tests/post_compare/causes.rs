@@ -8,12 +8,14 @@ use shared::numbers::{Numbers, PLAIN};
 use crate::compare::Call;
 use crate::numbers;
 
-/// A setup, with the length of its state, whether a lead charges in it, and what was answered.
+/// A setup, with the length of its state, whether a lead charges in it, what was answered, and all
+/// refusals that fit.
 pub struct Setup {
     pub numbers: Numbers,
     pub length: usize,
     pub charges: bool,
     pub number: u32,
+    pub fits: Vec<u32>,
 }
 
 impl Setup {
@@ -23,6 +25,7 @@ impl Setup {
             length: call.state.len(),
             charges: charges(&call.state),
             number,
+            fits: setup_fits(numbers, call.state.len()),
         }
     }
 
@@ -30,23 +33,20 @@ impl Setup {
         post::state_bytes(self.numbers.leads as usize)
     }
 
-    pub fn fits(&self) -> Vec<u32> {
-        setup_fits(self.numbers, self.length)
-    }
-
     /// Refused for one thing alone.
     pub fn alone(&self) -> bool {
-        self.fits().len() == 1
+        self.fits.len() == 1
     }
 }
 
-/// All refusals that fit: what setup refuses of each number alone, the others being good. An empty
-/// state is refused last of all.
+/// All refusals that fit, in the order of asking: what setup refuses of each number alone, of both
+/// errors together, the others being good. An empty state is refused last of all.
 #[rustfmt::skip]
-fn setup_fits(Numbers { leads, volts, amperes, resistance }: Numbers, length: usize) -> Vec<u32> {
+fn setup_fits(numbers: Numbers, length: usize) -> Vec<u32> {
+    let Numbers { leads, volts, amperes, resistance, volts_error, amperes_error } = numbers;
     let one_by_one = [
-        Numbers { leads, ..PLAIN }, Numbers { volts, ..PLAIN },
-        Numbers { amperes, ..PLAIN }, Numbers { resistance, ..PLAIN },
+        Numbers { leads, ..PLAIN }, Numbers { volts, ..PLAIN }, Numbers { amperes, ..PLAIN },
+        Numbers { resistance, ..PLAIN }, Numbers { volts_error, amperes_error, ..PLAIN },
     ];
     let mut fits = one_by_one.map(|numbers| numbers.set_up(&mut [])).to_vec();
     fits.retain(|&refusal| refusal != post::REFUSED_SETUP_LENGTH);
@@ -66,13 +66,14 @@ fn charges(state: &[u8]) -> bool {
 }
 
 /// A tick, with what was answered, and whether a lead charges in its state. Of one that is refused:
-/// all refusals after that of the state that fit, all flaws of its state or its input, and the lead
-/// that alone makes the state a bad one, by one flaw.
+/// all refusals after that of the state that fit, all flaws of its state or its input, and the head
+/// or the lead that alone makes the state a bad one, by one flaw.
 pub struct Tick {
     pub number: u32,
     pub charges: bool,
     pub fits: Vec<u32>,
     pub flaws: Vec<String>,
+    pub bad_head: Option<Numbers>,
     pub bad_lead: Option<BadLead>,
 }
 
@@ -88,6 +89,7 @@ impl Tick {
             charges: charges(&call.state),
             fits: Vec::new(),
             flaws: Vec::new(),
+            bad_head: None,
             bad_lead: None,
         };
         match number {
@@ -122,6 +124,7 @@ impl Tick {
         let numbers = numbers::of_head(head);
         let rating = numbers::rating(numbers);
         let fits = setup_fits(numbers, state.len());
+        self.bad_head = (!fits.is_empty()).then_some(numbers);
         self.flaws.extend(fits.into_iter().map(head_flaw));
         for (lead, &record) in records.as_chunks().0.iter().enumerate() {
             for condition in GOOD.iter().filter(|good| !(good.holds)(&record, &rating)) {
@@ -129,7 +132,9 @@ impl Tick {
                 self.bad_lead = Some(BadLead { record, rating });
             }
         }
-        self.bad_lead.take_if(|_| self.flaws.len() > 1);
+        if self.flaws.len() > 1 {
+            (self.bad_head, self.bad_lead) = (None, None);
+        }
     }
 }
 

@@ -10,11 +10,11 @@ use second::frames::{
 };
 use second::lead::*;
 use second::post::*;
-use second::readings::{Tenths, MOST_AMPERES, MOST_CABLE_RESISTANCE, MOST_VOLTS};
+use second::readings::{Tenths, MOST_AMPERES, MOST_CABLE_RESISTANCE, MOST_ERROR, MOST_VOLTS};
 use second::sharing::MOST_LEADS;
 use shared::coverage::{pairs, Counts, Fact, Table};
 use shared::lead_input::KNOWN;
-use shared::meter::largest;
+use shared::meter::{largest, largest_within, Shown};
 use shared::numbers::{Numbers, TINY};
 use shared::post::number;
 use shared::stops::reasons;
@@ -40,10 +40,7 @@ pub fn of_setups() -> Table<Setup> {
         table.row(WITH_REFUSALS, format!("setup returns {answer} where a lead charges"), move |setup|
             setup.number == answer && setup.charges);
     }
-    for (first, later) in pairs(&SETUP_REFUSALS) {
-        table.row(GARBLED, format!("setup returns {first}, where {later} fits too"), move |setup|
-            setup.number == first && setup.fits().contains(&later));
-    }
+    table.refusals(GARBLED, "setup", &SETUP_REFUSALS, |setup| Some((setup.number, &setup.fits)));
     for (name, number, least, most) in SETUP_EDGES {
         for value in [least, most] {
             table.row(GARBLED, format!("setup with {name} {value}"), move |setup| setup.number == DONE && number(&setup.numbers) == value);
@@ -57,7 +54,44 @@ pub fn of_setups() -> Table<Setup> {
         table.row(GARBLED, format!("setup {kind} {name} ohms"), move |setup|
             setup.numbers.resistance == ohms.to_bits() && (setup.number == DONE || setup.alone() && !taken));
     }
+    for (name, errors) in ERRORS {
+        for value in GOOD_ERRORS {
+            table.row(WITH_REFUSALS, format!("setup with {name} {value}"), move |setup| setup.number == DONE && errors(&setup.numbers)[0] == value);
+        }
+        table.row(WITH_REFUSALS, format!("setup with {name} above the other"), move |setup| {
+            let [error, other] = errors(&setup.numbers);
+            setup.number == DONE && error > other
+        });
+        for value in BAD_ERRORS {
+            table.row(GARBLED, format!("setup refused for {name} {value}"), move |setup|
+                setup.alone() && only_error_is(errors(&setup.numbers), value));
+        }
+    }
     table
+}
+
+/// The error of a meter, and that of the other.
+type Errors = fn(&Numbers) -> [u32; 2];
+
+#[rustfmt::skip]
+const ERRORS: [(&str, Errors); 2] = [
+    ("the volts' error", |numbers| [numbers.volts_error, numbers.amperes_error]),
+    ("the amperes' error", |numbers| [numbers.amperes_error, numbers.volts_error]),
+];
+
+const GOOD_ERRORS: [u32; 4] = [0, 1, MOST_ERROR.0 - 1, MOST_ERROR.0];
+
+/// Some are good ones again if bits are cut off, or taken for a sign.
+#[rustfmt::skip]
+const BAD_ERRORS: [u32; 7] = [MOST_ERROR.0 + 1, 0xFF, 0x100, 0x100 + MOST_ERROR.0, 0x1_0000, 1 << 31, u32::MAX];
+
+/// The other one is good.
+fn only_error_is([error, other]: [u32; 2], value: u32) -> bool {
+    error == value && other <= MOST_ERROR.0
+}
+
+fn both_are_bad(numbers: &Numbers) -> bool {
+    numbers.volts_error.min(numbers.amperes_error) > MOST_ERROR.0
 }
 
 #[rustfmt::skip]
@@ -80,6 +114,9 @@ const SETUPS: &[Fact<Setup>] = &[
     ([1_000, 0, 10_000], "setups", |_| true),
     (GARBLED, "setup refused for volts above two bytes", |setup| setup.alone() && setup.numbers.volts > 0xFFFF),
     (GARBLED, "setup refused for amperes above a byte", |setup| setup.alone() && setup.numbers.amperes > 0xFF),
+    (GARBLED, "setup refused for both errors", |setup| setup.alone() && both_are_bad(&setup.numbers)),
+    (GARBLED, "setup refused for both errors, of which the low bytes are good", |setup| setup.alone() && both_are_bad(&setup.numbers)
+        && ERRORS.iter().all(|(_, errors)| u32::from(errors(&setup.numbers)[0] as u8) <= MOST_ERROR.0)),
     (GARBLED, "setup refused for an empty state", |setup| setup.alone() && setup.length == 0),
     (GARBLED, "setup refused for a byte too few", |setup| setup.alone() && setup.length + 1 == setup.right_length()),
     (GARBLED, "setup refused for a byte too many", |setup| setup.alone() && setup.length == setup.right_length() + 1),
@@ -110,6 +147,13 @@ pub fn of_ticks() -> Table<Tick> {
     for flaw in flaws {
         table.row(HANDED_IN, flaw.clone(), move |tick| tick.flaws == [flaw.as_str()]);
     }
+    for (name, errors) in ERRORS {
+        for value in BAD_ERRORS.into_iter().filter(|&value| value <= 0xFF) {
+            table.row(HANDED_IN, format!("6 alone: {name} {value}"), move |tick|
+                tick.bad_head.is_some_and(|head| only_error_is(errors(&head), value)));
+        }
+    }
+    table.row(HANDED_IN, "6 alone: both errors".to_string(), |tick| tick.bad_head.is_some_and(|head| both_are_bad(&head)));
     for at in place::SPARE..STATE_BYTES {
         table.row(HANDED_IN, format!("6 alone: of the spare bytes only {at}"), move |tick|
             tick.has_bad_lead(|lead| alone(&lead.record[place::SPARE..], at - place::SPARE)));
@@ -184,6 +228,10 @@ pub fn of_posts() -> Table<[Turn]> {
     for (name, ohms) in CABLES {
         table.row(REACHED, format!("cable resistance {name}"), move |turns|
             turns[0].standing.rating.cable_resistance.to_bits() == ohms.to_bits());
+    }
+    for value in GOOD_ERRORS.map(Tenths) {
+        table.row(REACHED, format!("volts' error {}", value.0), move |turns| turns[0].standing.rating.volts_error == value);
+        table.row(REACHED, format!("amperes' error {}", value.0), move |turns| turns[0].standing.rating.amperes_error == value);
     }
     table
 }
@@ -289,15 +337,13 @@ pub fn of_turns() -> Table<Turn> {
         }
     }
     for phase in [4, 9] {
-        table.row(REACHED, format!("safe volts end {phase}"), move |turn| turn.moved_from(phase) && turn.has_volts(SAFE_VOLTS_IN_TENTHS));
-        table.row(REACHED, format!("a tenth more than safe volts doesn't end {phase}"), move |turn|
-            turn.stayed_in(phase) && turn.has_volts(SAFE_VOLTS_IN_TENTHS + Tenths(1)));
         table.row(REACHED, format!("safe volts exactly, and 0 A, in {phase}"), move |turn|
             turn.before.phase == phase && turn.value(VOLTS) == Some(largest(SAFE_VOLTS_IN_TENTHS)) && turn.value(AMPERES) == Some(0.0));
     }
     for bit in 0..FAULTS.count_ones() {
         table.row(REACHED, format!("stop 20 for fault {bit} alone"), move |turn| turn.stopped_for_faults(1 << bit, 0));
     }
+    add_upper_ends(&mut table);
     add_energies(&mut table);
     add_offers(&mut table);
     add_withdrawals(&mut table);
@@ -343,6 +389,97 @@ pub fn of_turns() -> Table<Turn> {
     table
 }
 
+/// The tests that judge the upper end of a reading, on either side of their limits.
+#[rustfmt::skip]
+fn add_upper_ends(table: &mut Table<Turn>) {
+    for (name, meter, limit, passes, fails) in JUDGED {
+        for (text, holds) in PASSING {
+            table.row(REACHED, format!("{name}, yes: {text}"), move |turn| passes(turn) && meter(turn).is_some_and(|of| holds(&of, limit(turn))));
+        }
+        for (text, holds) in FAILING {
+            table.row(REACHED, format!("{name}, no: {text}"), move |turn| fails(turn) && meter(turn).is_some_and(|of| holds(&of, limit(turn))));
+        }
+        // No amperes end 7 then.
+        if name != END_OF_7 {
+            table.row(REACHED, format!("{name}, yes: the upper end at the limit, by the largest error"), move |turn|
+                passes(turn) && meter(turn).is_some_and(|of| of.error == MOST_ERROR && of.is_at_by_error(limit(turn))));
+        }
+    }
+    for (number, (_, meter, limit, ..)) in [16, 17].into_iter().zip(JUDGED) {
+        for phase in 5..=7 {
+            table.row(REACHED, format!("stop {number} from {phase} by the error alone"), move |turn| turn.stopped_for(number)
+                && turn.before.phase == phase && meter(turn).is_some_and(|of| of.is_above_by_error(limit(turn))));
+        }
+    }
+    // Where the error alone is above the limit, question 17 gets no yes.
+    for rated in [1, 2] {
+        let limit = Tenths::of_whole(rated) + AMPERES_OVER_RATED_IN_TENTHS;
+        let shows_0 = move |turn: &Turn, error: Tenths| turn.rated() == rated.into() && turn.began_in(5..=7)
+            && meter_of_amperes(turn).is_some_and(|of| of.tenths == Tenths(0) && of.error == error);
+        table.row(REACHED, format!("0 A are no stop, rated {rated} A, error {}", limit.0), move |turn| shows_0(turn, limit) && !turn.stopped_for(17));
+        for error in [limit + Tenths(1), MOST_ERROR] {
+            table.row(REACHED, format!("stop 17 at 0 A, rated {rated} A, error {}", error.0), move |turn|
+                shows_0(turn, error) && turn.stopped_for(17));
+        }
+    }
+}
+
+fn meter_of_volts(turn: &Turn) -> Option<Shown> {
+    let rating = &turn.standing.rating;
+    turn.measured.map(|of| Shown::volts(of, rating))
+}
+
+fn meter_of_amperes(turn: &Turn) -> Option<Shown> {
+    let rating = &turn.standing.rating;
+    turn.measured.map(|of| Shown::amperes(of, rating))
+}
+
+/// What one of the two shows, where the reading is good.
+type Meter = fn(&Turn) -> Option<Shown>;
+
+/// A name, the meter that is judged, the limit, and whether the answer was yes, or no.
+type Judged = (
+    &'static str,
+    Meter,
+    fn(&Turn) -> Tenths,
+    fn(&Turn) -> bool,
+    fn(&Turn) -> bool,
+);
+
+const END_OF_7: &str = "7 to 8 by amperes";
+
+#[rustfmt::skip]
+const JUDGED: [Judged; 5] = [
+    ("question 16", meter_of_volts, |turn| turn.standing.most_volts(), |turn| turn.began_in(5..=7) && !turn.is_stopped(),
+        |turn| turn.stopped_for(16)),
+    ("question 17", meter_of_amperes, |turn| turn.standing.most_amperes(), |turn| turn.began_in(5..=7) && !turn.is_stopped(),
+        |turn| turn.stopped_for(17)),
+    ("4 to 5", meter_of_volts, |_| SAFE_VOLTS_IN_TENTHS, |turn| turn.moved_from(4), |turn| turn.stayed_in(4)),
+    ("9 to 10", meter_of_volts, |_| SAFE_VOLTS_IN_TENTHS, |turn| turn.moved_from(9), |turn| turn.stayed_in(9)),
+    (END_OF_7, meter_of_amperes, |_| SAFE_AMPERES_IN_TENTHS, |turn| turn.moved_from(7) && turn.before.age < RAMP_DOWN_LIMIT,
+        |turn| turn.stayed_in(7) && turn.before.command == 0),
+];
+
+/// On which side of the limit a meter's tenths and their upper end are.
+type Side = (&'static str, fn(&Shown, Tenths) -> bool);
+
+#[rustfmt::skip]
+const PASSING: [Side; 4] = [
+    ("at the limit, error 0", |of, limit| of.is_exact() && of.tenths == limit),
+    ("at the limit, error 0, the other above it", |of, limit| of.is_exact() && of.tenths == limit && of.other_end() > limit),
+    ("the upper end at the limit", |of, limit| of.is_at_by_error(limit)),
+    ("the upper end at the limit, above it by the other error", |of, limit| of.is_at_by_error(limit) && of.other_end() > limit),
+];
+
+#[rustfmt::skip]
+const FAILING: [Side; 5] = [
+    ("a tenth above the limit, error 0", |of, limit| of.is_exact() && of.tenths == limit + Tenths(1)),
+    ("at the limit, error 1", |of, limit| of.error == Tenths(1) && of.tenths == limit),
+    ("below the limit, the upper end a tenth above it", |of, limit| of.tenths < limit && of.upper_end() == limit + Tenths(1)),
+    ("the upper end a tenth above the limit, not by the other error", |of, limit| of.upper_end() == limit + Tenths(1) && of.other_end() <= limit),
+    ("above the limit, the lower end not", |of, limit| of.tenths > limit && of.tenths <= limit + of.error),
+];
+
 /// What H'108 offers, by phase and level.
 #[rustfmt::skip]
 fn add_offers(table: &mut Table<Turn>) {
@@ -385,8 +522,7 @@ fn add_withdrawals(table: &mut Table<Turn>) {
     }
     for (phase, word) in [(1, "waits"), (8, "goes on")] {
         table.row(REACHED, format!("permission is open in {phase}, not enabled, and the lead {word}"), move |turn|
-            turn.before.phase == phase && turn.is_open(contact::CHARGE_PERMISSION) && turn.sent.withdraws()
-                && !matches!(turn.decision, Decision::Stopped { .. }));
+            turn.before.phase == phase && turn.is_open(contact::CHARGE_PERMISSION) && turn.sent.withdraws() && !turn.is_stopped());
     }
 }
 
@@ -400,8 +536,8 @@ fn matters_in(phase: u8) -> bool {
 #[rustfmt::skip]
 const BESIDE_14: [(u8, fn(&Turn) -> bool); 7] = [
     (15, |turn| turn.measured.is_none()),
-    (16, |turn| turn.measured.is_some_and(|of| of.connector_volts > turn.standing.most_volts())),
-    (17, |turn| turn.measured.is_some() && turn.value(AMPERES) > Some(turn.standing.most_amperes())),
+    (16, |turn| meter_of_volts(turn).is_some_and(|of| of.upper_end() > turn.standing.most_volts())),
+    (17, |turn| meter_of_amperes(turn).is_some_and(|of| of.upper_end() > turn.standing.most_amperes())),
     (18, |turn| turn.is_open(contact::CONNECTOR_LOCK)),
     (20, |turn| !turn.after.car.faults_clear()),
     (21, |turn| turn.after.seen == SEEN_ALL && turn.after.car.target_voltage > turn.standing.threshold),
@@ -501,6 +637,10 @@ impl Turn {
         matches!(self.decision, Decision::Moved { from, .. } if from == phase)
     }
 
+    fn is_stopped(&self) -> bool {
+        matches!(self.decision, Decision::Stopped { .. })
+    }
+
     fn stopped_for(&self, number: u8) -> bool {
         matches!(self.decision, Decision::Stopped { question, .. } if question == number)
     }
@@ -595,8 +735,28 @@ impl Turn {
         (self.input[input_place::PRESENT] & bit != 0).then(|| f32::from_le_bytes(*bytes))
     }
 
-    fn has_volts(&self, volts: Tenths) -> bool {
-        self.measured.is_some_and(|of| of.connector_volts == volts)
+    /// The most amperes whose upper end is no more than so many tenths.
+    fn most_amperes_within(&self, limit: Tenths) -> Option<f32> {
+        largest_within(limit, self.standing.rating.amperes_error)
+    }
+
+    /// Above the highest value of a good reading, by the error.
+    fn ends_above(&self, meter: Meter, most: f32) -> bool {
+        let most = Tenths::of_whole(most as u16);
+        meter(self).is_some_and(|of| of.is_above_by_error(most))
+    }
+
+    fn shows_no_amperes(&self, error: Tenths) -> bool {
+        meter_of_amperes(self).is_some_and(|of| of.tenths == Tenths(0) && of.error == error)
+    }
+
+    /// A good reading in H'109, both meters' errors above 0, of which this holds.
+    fn shows(&self, holds: impl Fn([Shown; 2]) -> bool) -> bool {
+        let both = meter_of_volts(self).zip(meter_of_amperes(self));
+        let shown = both.is_some_and(|(volts, amperes)| {
+            !volts.is_exact() && !amperes.is_exact() && holds([volts, amperes])
+        });
+        matches!(self.after.phase, 1..=9) && shown
     }
 
     /// Byte 3 of H'108.
@@ -754,14 +914,19 @@ const TURNS: &[Fact<Turn>] = &[
     (REACHED, "a wrong length after a right one", |turn| turn.twice(false)),
     (REACHED, "another identifier", |turn| turn.frames().any(|record| !KNOWN.contains(&number(record, 0)))),
 
-    (REACHED, "connector volts at the threshold in 5-7", |turn| turn.began_in(5..=7) && turn.has_volts(turn.standing.most_volts())),
-    (REACHED, "connector volts a tenth above the threshold", |turn| turn.stopped_for(16)
-        && turn.has_volts(turn.standing.most_volts() + Tenths(1))),
     (REACHED, "connector volts 0 of a negative difference", |turn| turn.measured.is_some()
         && turn.value(AMPERES).map(|amperes| turn.standing.rating.cable_resistance * amperes) > turn.value(VOLTS)),
-    (REACHED, "amperes at rated + 2.5 in 5-7", |turn| turn.began_in(5..=7) && turn.value(AMPERES) == Some(turn.standing.most_amperes())),
+    (REACHED, "the most amperes up to rated + 2.5 in 5-7", |turn| turn.began_in(5..=7) && !turn.is_stopped()
+        && turn.value(AMPERES) == turn.most_amperes_within(turn.standing.most_amperes())),
     (REACHED, "amperes just above rated + 2.5", |turn| turn.stopped_for(17)
-        && turn.value(AMPERES) == Some(turn.standing.most_amperes().next_up())),
+        && turn.value(AMPERES) == turn.most_amperes_within(turn.standing.most_amperes()).map(f32::next_up)),
+    (REACHED, "stop 16 by an upper end above 1,000 V", |turn| turn.stopped_for(16) && turn.ends_above(meter_of_volts, MOST_VOLTS)),
+    (REACHED, "4 stays by an upper end above 1,000 V", |turn| turn.stayed_in(4) && turn.ends_above(meter_of_volts, MOST_VOLTS)),
+    (REACHED, "9 stays by an upper end above 1,000 V", |turn| turn.stayed_in(9) && turn.ends_above(meter_of_volts, MOST_VOLTS)),
+    (REACHED, "stop 17 by an upper end above 400 A", |turn| turn.stopped_for(17) && turn.ends_above(meter_of_amperes, MOST_AMPERES)),
+    // Question 15 asks about the reading itself.
+    (REACHED, "1,000 V and 400 A are good in 3, both errors above 0", |turn| turn.began_in(3..=3) && !turn.is_stopped()
+        && turn.value(VOLTS) == Some(MOST_VOLTS) && turn.value(AMPERES) == Some(MOST_AMPERES) && turn.shows(|_| true)),
     (REACHED, "amperes 255 shown as they are", |turn| matches!(turn.after.phase, 1..=9)
         && turn.measured.is_some_and(|of| of.amperes.rounded_up() == MOST_AMPERES_SHOWN.into())),
     (REACHED, "amperes above 255 shown as 255", |turn| matches!(turn.after.phase, 1..=9)
@@ -771,6 +936,18 @@ const TURNS: &[Fact<Turn>] = &[
     // The float nearest to 4.9. Ten times it, worked out in f32, would be 49.
     (REACHED, "4.9 A, which are 50 tenths, don't end 7", |turn| turn.stayed_in(7) && turn.before.command == 0
         && turn.value(AMPERES) == Some(largest(SAFE_AMPERES_IN_TENTHS).next_up())),
+    (REACHED, "0 A end 7 with an error of 49", |turn| turn.moved_from(7) && turn.before.age < RAMP_DOWN_LIMIT
+        && turn.shows_no_amperes(SAFE_AMPERES_IN_TENTHS)),
+    (REACHED, "0 A don't end 7 with an error of 50", |turn| turn.stayed_in(7) && turn.before.command == 0 && turn.shows_no_amperes(MOST_ERROR)),
+    (REACHED, "0 A, and 7 to 8 at age 30 with an error of 50", |turn| turn.moved_from(7) && turn.before.age == RAMP_DOWN_LIMIT
+        && turn.before.command == 0 && turn.shows_no_amperes(MOST_ERROR)),
+    (REACHED, "H'109 with fewer volts and amperes than their upper ends", |turn|
+        turn.shows(|both| both.iter().all(|of| of.tenths.rounded_up() < of.upper_end().rounded_up()))),
+    (REACHED, "H'109 with 0 V and 0 A, both errors above 0", |turn| turn.shows(|both| both.iter().all(|of| of.tenths == Tenths(0)))),
+    (REACHED, "amperes up to 255 shown, the upper end above it", |turn| turn.shows(|[_, of]| {
+        let most = Tenths::of_whole(MOST_AMPERES_SHOWN);
+        of.tenths <= most && of.upper_end() > most
+    })),
     (REACHED, "H'109 with volts and amperes rounded up", |turn| matches!(turn.after.phase, 1..=9)
         && turn.measured.is_some_and(|of| !is_whole(of.connector_volts) && !is_whole(of.amperes))),
     (REACHED, "H'109 with whole volts and amperes above 0", |turn| matches!(turn.after.phase, 1..=9)

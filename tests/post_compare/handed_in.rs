@@ -79,6 +79,7 @@ fn lead_input(record: &Record, going_on: bool, rating: &Rating, dice: &mut Dice)
         true => Scene::onward(phase, command, &car),
         false => Scene::waiting(phase, command, &car),
     };
+    let scene = scene.less_errors(rating);
     if going_on && !dice.one_in(30) {
         return build(scene, phase, dice);
     }
@@ -154,7 +155,11 @@ fn setup(dice: &mut Dice) -> Call {
 fn draw_numbers(dice: &mut Dice) -> Numbers {
     let any = |dice: &mut Dice| dice.next() >> dice.below(32);
     if dice.one_in(16) {
-        return Numbers::of([any(dice), any(dice), any(dice), dice.next()]);
+        let resistance = dice.next();
+        return Numbers {
+            resistance,
+            ..Numbers::of([(); 6].map(|()| any(dice)))
+        };
     }
     let mut numbers = numbers::good(1 + dice.below(MOST_LEADS as u32), dice);
     for _ in 0..dice.pick(&[0, 0, 1, 1, 2, 3]) {

@@ -9,7 +9,8 @@ use crate::sharing::MOST_LEADS;
 /// "One above 1,000 characters" is answered `?`. The line feed isn't counted.
 pub const LONGEST_LINE: usize = 1000;
 
-/// "Setup's first three numbers are decimal, at most 65,535."
+/// "Setup's first three numbers are decimal, at most 65,535." 2026-08: the line "ends
+/// with the two errors in decimal, at most 65,535, volts first".
 pub const LARGEST_DECIMAL: u32 = 65_535;
 
 const RESISTANCE_DIGITS: usize = 8;
@@ -110,8 +111,17 @@ impl Bench {
         if line.len() > LONGEST_LINE {
             return Answer::NotUnderstood;
         }
-        if let Some([b"setup", leads, volts, amperes, resistance]) = fields(line) {
-            return self.setup(leads, volts, amperes, resistance);
+        if let Some([b"setup", leads, volts, amperes, resistance, volts_error, amperes_error]) =
+            fields(line)
+        {
+            return self.setup(
+                leads,
+                volts,
+                amperes,
+                resistance,
+                volts_error,
+                amperes_error,
+            );
         }
         if let Some([b"tick", hex]) = fields(line) {
             return self.tick(hex);
@@ -125,20 +135,40 @@ impl Bench {
         volts: &[u8],
         amperes: &[u8],
         resistance: &[u8],
+        volts_error: &[u8],
+        amperes_error: &[u8],
     ) -> Answer<'static> {
-        let (Some(leads), Some(volts), Some(amperes), Some(resistance)) = (
+        let (
+            Some(leads),
+            Some(volts),
+            Some(amperes),
+            Some(resistance),
+            Some(volts_error),
+            Some(amperes_error),
+        ) = (
             decimal(leads),
             decimal(volts),
             decimal(amperes),
             resistance_bits(resistance),
-        ) else {
+            decimal(volts_error),
+            decimal(amperes_error),
+        )
+        else {
             return Answer::NotUnderstood;
         };
         // With a wrong number of leads any length will do: 1 comes before 5.
         let count = (leads as usize).min(MOST_LEADS);
         let state = &mut self.state[..post::state_bytes(count)];
         // "A refused setup keeps the earlier post": setup writes nothing then.
-        let number = post::setup(leads, volts, amperes, resistance, state);
+        let number = post::setup(
+            leads,
+            volts,
+            amperes,
+            resistance,
+            volts_error,
+            amperes_error,
+            state,
+        );
         if number == post::DONE {
             self.leads = count;
         }

@@ -125,6 +125,9 @@ pub struct Rating {
     pub volts: u16,
     pub amperes: u8,
     pub cable_resistance: f32,
+    /// 2026-08: how far the meters may be off.
+    pub volts_error: Tenths,
+    pub amperes_error: Tenths,
 }
 
 // ---------------------------------------------------------------------------
@@ -405,17 +408,22 @@ pub const QUESTIONS: [Question; 19] = [
 ];
 
 impl Now<'_> {
-    /// 2026-04: "The 10 V limits and question 16 compare in tenths."
+    /// 2026-04: "The 10 V limits and question 16 compare in tenths." 2026-08:
+    /// "Questions 16 and 17, both 10 V limits and the end of phase 7 judge the upper
+    /// end." "For connector volts the range is their tenths with the volts' e alone."
     fn connector_volts_at_most(&self, volts: Tenths) -> bool {
+        let error = self.rating.volts_error;
         self.input
             .measured
-            .is_some_and(|measured| measured.connector_volts <= volts)
+            .is_some_and(|measured| measured.connector_volts.upper_end(error) <= volts)
     }
 
+    /// 2026-08: "The amperes' e judges amperes only."
     fn amperes_at_most(&self, amperes: Tenths) -> bool {
+        let error = self.rating.amperes_error;
         self.input
             .measured
-            .is_some_and(|measured| measured.amperes <= amperes)
+            .is_some_and(|measured| measured.amperes.upper_end(error) <= amperes)
     }
 
     /// Question 17, 2026-04: "rated + 2.5 A".
@@ -738,7 +746,8 @@ impl Lead {
 
     fn charger_status(&self, input: &Input) -> frames::Data {
         // 2026-04: "H'109 still carries whole numbers, rounded up from tenths."
-        // Those of a good reading are at most 1000.
+        // Those of a good reading are at most 1000. They are the reading itself, without
+        // the meters' errors.
         let whole = |tenths: Tenths| tenths.rounded_up() as u16;
         let (volts, amperes) = match input.measured {
             Some(measured) => (whole(measured.connector_volts), whole(measured.amperes)),

@@ -1,6 +1,6 @@
 //! The post's lead controller and power divider, written a second time.
 //!
-//! It describes document 01, with requests 2026-01 to 2026-07 of document 02, in
+//! It describes document 01, with requests 2026-01 to 2026-08 of document 02, in
 //! plain code, in the order of document 01, and gives the expected answers for
 //! tests. Each layer knows only those above it in this list:
 //!

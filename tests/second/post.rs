@@ -1,7 +1,7 @@
 //! The post's two calls, on numbers and byte slices of any length.
 
 use crate::lead::{self, bytes_at, Input, Lead, Rating};
-use crate::readings::cable_resistance_allowed;
+use crate::readings::{cable_resistance_allowed, Tenths, MOST_ERROR};
 use crate::sharing::{level, MOST_LEADS};
 
 /// Places in the head of the state.
@@ -10,10 +10,13 @@ pub mod head_place {
     pub const AMPERES: usize = 1;
     pub const VOLTS: usize = 2;
     pub const RESISTANCE: usize = 4;
+    /// 2026-08: the meters' errors, "volts first, in two bytes at the head's end".
+    pub const VOLTS_ERROR: usize = 8;
+    pub const AMPERES_ERROR: usize = 9;
 }
 
 /// The head before the leads' states.
-pub const HEAD_BYTES: usize = 8;
+pub const HEAD_BYTES: usize = 10;
 
 /// The allowance before the leads' inputs.
 pub const ALLOWANCE_BYTES: usize = 4;
@@ -35,6 +38,7 @@ pub const REFUSED_LEADS: u32 = 1;
 pub const REFUSED_RATED_VOLTS: u32 = 2;
 pub const REFUSED_RATED_AMPERES: u32 = 3;
 pub const REFUSED_RESISTANCE: u32 = 4;
+pub const REFUSED_ERROR: u32 = 32;
 pub const REFUSED_SETUP_LENGTH: u32 = 5;
 pub const REFUSED_STATE: u32 = 6;
 pub const REFUSED_INPUT_LENGTH: u32 = 7;
@@ -67,21 +71,24 @@ struct Given {
     volts: u32,
     amperes: u32,
     resistance: u32,
+    volts_error: Tenths,
+    amperes_error: Tenths,
     state_length: usize,
 }
 
 /// In the order of asking: the first no is the refusal, so that a question may
 /// rest on those before it.
 #[rustfmt::skip]
-const SETUP_QUESTIONS: [(u32, fn(&Given) -> bool); 5] = [
+const SETUP_QUESTIONS: [(u32, fn(&Given) -> bool); 6] = [
     (REFUSED_LEADS, |given| (1..=MOST_LEADS as u32).contains(&given.leads)),
     (REFUSED_RATED_VOLTS, |given| (LEAST_RATED_VOLTS..=MOST_RATED_VOLTS).contains(&given.volts)),
     (REFUSED_RATED_AMPERES, |given| (LEAST_RATED_AMPERES..=MOST_RATED_AMPERES).contains(&given.amperes)),
     (REFUSED_RESISTANCE, |given| cable_resistance_allowed(f32::from_bits(given.resistance))),
+    (REFUSED_ERROR, |given| given.volts_error <= MOST_ERROR && given.amperes_error <= MOST_ERROR),
     (REFUSED_SETUP_LENGTH, |given| given.state_length == state_bytes(given.leads as usize)),
 ];
 
-pub const SETUP_REFUSALS: [u32; 5] = refusals(&SETUP_QUESTIONS);
+pub const SETUP_REFUSALS: [u32; 6] = refusals(&SETUP_QUESTIONS);
 
 impl Given {
     fn refusal(&self) -> Option<u32> {
@@ -90,13 +97,24 @@ impl Given {
     }
 }
 
-/// Writes a fresh state. `resistance` is the bits of a float.
-pub fn setup(leads: u32, volts: u32, amperes: u32, resistance: u32, state: &mut [u8]) -> u32 {
+/// Writes a fresh state. `resistance` is the bits of a float; the meters' errors are
+/// in tenths.
+pub fn setup(
+    leads: u32,
+    volts: u32,
+    amperes: u32,
+    resistance: u32,
+    volts_error: u32,
+    amperes_error: u32,
+    state: &mut [u8],
+) -> u32 {
     let given = Given {
         leads,
         volts,
         amperes,
         resistance,
+        volts_error: Tenths(volts_error),
+        amperes_error: Tenths(amperes_error),
         state_length: state.len(),
     };
     if let Some(refusal) = given.refusal() {
@@ -106,7 +124,10 @@ pub fn setup(leads: u32, volts: u32, amperes: u32, resistance: u32, state: &mut 
     state[head_place::LEADS] = leads as u8;
     state[head_place::AMPERES] = amperes as u8;
     state[head_place::VOLTS..head_place::RESISTANCE].copy_from_slice(&(volts as u16).to_le_bytes());
-    state[head_place::RESISTANCE..HEAD_BYTES].copy_from_slice(&resistance.to_le_bytes());
+    state[head_place::RESISTANCE..head_place::VOLTS_ERROR]
+        .copy_from_slice(&resistance.to_le_bytes());
+    state[head_place::VOLTS_ERROR] = volts_error as u8;
+    state[head_place::AMPERES_ERROR] = amperes_error as u8;
     DONE
 }
 
@@ -128,6 +149,8 @@ impl Head {
             volts: 0,
             amperes: 0,
             cable_resistance: 0.0,
+            volts_error: Tenths(0),
+            amperes_error: Tenths(0),
         },
     };
 
@@ -136,11 +159,15 @@ impl Head {
         let amperes = bytes[head_place::AMPERES];
         let volts = u16::from_le_bytes(bytes_at(bytes, head_place::VOLTS));
         let resistance = u32::from_le_bytes(bytes_at(bytes, head_place::RESISTANCE));
+        let volts_error = Tenths(bytes[head_place::VOLTS_ERROR].into());
+        let amperes_error = Tenths(bytes[head_place::AMPERES_ERROR].into());
         let given = Given {
             leads: leads as u32,
             volts: volts.into(),
             amperes: amperes.into(),
             resistance,
+            volts_error,
+            amperes_error,
             // The head says how long its state must be, not how long it is.
             state_length: state_bytes(leads),
         };
@@ -148,6 +175,8 @@ impl Head {
             volts,
             amperes,
             cable_resistance: f32::from_bits(resistance),
+            volts_error,
+            amperes_error,
         };
         given.refusal().is_none().then_some(Head { leads, rating })
     }

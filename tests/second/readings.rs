@@ -11,6 +11,9 @@ pub const MOST_AMPERES: f32 = 400.0;
 /// "Resistance 0 to 1": the highest cable resistance, in ohms.
 pub const MOST_CABLE_RESISTANCE: f32 = 1.0;
 
+/// 2026-08: the largest error of a meter, of volts or of amperes.
+pub const MOST_ERROR: Tenths = Tenths(50);
+
 /// Question 27: ohms of insulation asked for each volt of the threshold.
 pub const INSULATION_OHMS_PER_VOLT: f32 = 100.0;
 
@@ -60,6 +63,13 @@ impl Tenths {
         Tenths(ten_times.ceil() as u32)
     }
 
+    /// 2026-08: "A reading stands for every value from tenths − e (at least 0) to
+    /// tenths + e." Where the upper end is at most a limit, each value of the range
+    /// is. It may lie above the highest volts or amperes of a good reading.
+    pub fn upper_end(self, error: Tenths) -> Tenths {
+        self + error
+    }
+
     /// The least whole number not below.
     pub const fn rounded_up(self) -> u32 {
         self.0.div_ceil(Self::IN_A_WHOLE)
@@ -74,7 +84,8 @@ impl Add for Tenths {
     }
 }
 
-/// A good reading in tenths, the volts being those at the connector.
+/// A good reading in tenths, the volts being those at the connector. The meters'
+/// errors are not in it.
 #[derive(Clone, Copy, Debug, PartialEq, Eq)]
 pub struct Measured {
     pub connector_volts: Tenths,
@@ -234,6 +245,18 @@ mod tests {
                 assert_eq!((tenths + Tenths(more)).rounded_up(), whole + 1);
             }
         }
+    }
+
+    #[test]
+    fn upper_ends() {
+        for tenths in 0..=10_000 {
+            for error in 0..=MOST_ERROR.0 {
+                // Nothing stops it at the highest volts or amperes of a good reading.
+                let upper_end = Tenths(tenths).upper_end(Tenths(error));
+                assert_eq!(upper_end, Tenths(tenths + error));
+            }
+        }
+        assert_eq!(MOST_ERROR, Tenths(50));
     }
 
     #[test]

@@ -4,6 +4,7 @@
 
 mod bench;
 mod energy;
+mod meter_class;
 mod offered;
 mod output;
 mod phases;
@@ -22,10 +23,11 @@ use crate::lead::contact::{
     CHARGE_PERMISSION, CONNECTOR_LOCK, EMERGENCY_STOP, GROUND_FAULT, PLUG, START_BUTTON, STOP_BUTTON,
 };
 use crate::lead::place::*;
-use crate::lead::{input_place, output_place, present, INPUT_BYTES, OUTPUT_BYTES, STATE_BYTES};
+use crate::lead::{input_place, output_place, present, Rating, INPUT_BYTES, OUTPUT_BYTES, STATE_BYTES};
 use crate::post::{
     head_place, input_bytes, output_bytes, setup, state_bytes, tick, ALLOWANCE_BYTES, DONE, HEAD_BYTES,
 };
+use crate::readings::Tenths;
 
 /// An allowance that is never short.
 const AMPLE: u32 = u32::MAX;
@@ -35,11 +37,22 @@ const CLOSED: u8 = PLUG | CHARGE_PERMISSION | CONNECTOR_LOCK;
 /// Byte 3 of H'108 in a lead's output.
 const OFFERED: usize = output_place::H108 + 3;
 
-/// A state that setup wrote over other bytes, without cable resistance.
-fn fresh(leads: usize, volts: u32, amperes: u32) -> Vec<u8> {
+/// 500 V and 125 A, without cable resistance, the meters without error.
+const RATING: Rating = Rating {
+    volts: 500, amperes: 125, cable_resistance: 0.0, volts_error: Tenths(0), amperes_error: Tenths(0),
+};
+
+/// A state that setup wrote over other bytes.
+fn set_up(leads: usize, volts: u32, amperes: u32, resistance: f32, volts_error: u32, amperes_error: u32) -> Vec<u8> {
     let mut state = vec![0xEE; state_bytes(leads)];
-    assert_eq!(setup(leads as u32, volts, amperes, 0, &mut state), DONE);
+    let number = setup(leads as u32, volts, amperes, resistance.to_bits(), volts_error, amperes_error, &mut state);
+    assert_eq!(number, DONE);
     state
+}
+
+/// The same without cable resistance, the meters without error.
+fn fresh(leads: usize, volts: u32, amperes: u32) -> Vec<u8> {
+    set_up(leads, volts, amperes, 0.0, 0, 0)
 }
 
 /// A tick that is done; what each lead shows.
@@ -51,13 +64,16 @@ fn done(state: &mut [u8], allowance: u32, inputs: &[LeadInput]) -> Vec<[u8; OUTP
     output.as_chunks().0.to_vec()
 }
 
-/// One lead of a post of 500 V, 125 A, with a state handed in and an input such that the lead stays
-/// in its phase. Tests change one thing at a time.
+/// One lead of a post of 500 V, 125 A, its meters without error, with a state handed in and an input
+/// such that the lead stays in its phase. Tests change one thing at a time.
 #[derive(Clone, Copy)]
 struct Case {
     state: [u8; STATE_BYTES],
     input: LeadInput,
+    rated: u32,
     resistance: f32,
+    volts_error: u32,
+    amperes_error: u32,
     allowance: u32,
 }
 
@@ -69,7 +85,10 @@ const ASKED: u8 = 100;
 impl Case {
     fn new(phase: u8) -> Case {
         let input = LeadInput::new(CLOSED).reading(200.0, 10.0);
-        let case = Case { state: [0; STATE_BYTES], input, resistance: 0.0, allowance: AMPLE }.byte(PHASE, phase);
+        let post = Case {
+            state: [0; STATE_BYTES], input, rated: 125, resistance: 0.0, volts_error: 0, amperes_error: 0, allowance: AMPLE,
+        };
+        let case = post.byte(PHASE, phase);
         if phase < 2 {
             return case;
         }
@@ -106,11 +125,13 @@ impl Case {
     /// An H'102 as the state has it, but for the status byte.
     fn hears(self, status: u8) -> Case { self.input(|input| input.status(TARGET, ASKED, 0, status)) }
     fn allowance(self, allowance: u32) -> Case { Case { allowance, ..self } }
+    fn rated(self, rated: u32) -> Case { Case { rated, ..self } }
     fn resistance(self, resistance: f32) -> Case { Case { resistance, ..self } }
+    fn volts_error(self, volts_error: u32) -> Case { Case { volts_error, ..self } }
+    fn amperes_error(self, amperes_error: u32) -> Case { Case { amperes_error, ..self } }
 
     fn tick(self) -> After {
-        let mut state = fresh(1, 500, 125);
-        state[head_place::RESISTANCE..HEAD_BYTES].copy_from_slice(&self.resistance.to_le_bytes());
+        let mut state = set_up(1, 500, self.rated, self.resistance, self.volts_error, self.amperes_error);
         state[HEAD_BYTES..].copy_from_slice(&self.state);
         let output = done(&mut state, self.allowance, &[self.input])[0];
         let state: [u8; STATE_BYTES] = state[HEAD_BYTES..].try_into().unwrap();
@@ -173,7 +194,10 @@ fn places_and_bits_have_the_documents_numbers() {
     assert_eq!([present::VOLTS, present::AMPERES, present::RESISTANCE], [1, 2, 4]);
     use input_place::{AMPERES, CONTACTS, COUNT, FRAMES, OHMS, PRESENT, VOLTS};
     assert_eq!([CONTACTS, PRESENT, COUNT, input_place::SPARE, VOLTS, AMPERES, OHMS, FRAMES], [0, 1, 2, 3, 4, 8, 12, 16]);
-    assert_eq!([1, 4].map(state_bytes), [40, 136]);
+    use head_place::{AMPERES_ERROR, LEADS, RESISTANCE, VOLTS_ERROR};
+    let head = [LEADS, head_place::AMPERES, head_place::VOLTS, RESISTANCE, VOLTS_ERROR, AMPERES_ERROR, HEAD_BYTES];
+    assert_eq!(head, [0, 1, 2, 4, 8, 9, 10]);
+    assert_eq!([1, 2, 3, 4].map(state_bytes), [42, 74, 106, 138]);
     assert_eq!([1, 4].map(input_bytes), [108, 420]);
     assert_eq!([1, 4].map(output_bytes), [24, 96]);
 }

@@ -8,7 +8,16 @@ use crate::numbers::Numbers;
 
 mod c {
     extern "C" {
-        pub fn setup(l: u32, v: u32, a: u32, r: u32, state: *mut u8, bytes: usize) -> u32;
+        pub fn setup(
+            leads: u32,
+            volts: u32,
+            amperes: u32,
+            resistance: u32,
+            volts_error: u32,
+            amperes_error: u32,
+            state: *mut u8,
+            bytes: usize,
+        ) -> u32;
         pub fn tick(s: *mut u8, sn: usize, i: *const u8, n: usize, o: *mut u8, on: usize) -> u32;
         pub fn plug_sense(s: *mut u8, sn: usize, value: u32, p: *mut u8, pn: usize) -> u32;
     }
@@ -18,7 +27,18 @@ mod c {
 pub fn setup(n: &Numbers, state: &mut [u8]) -> u32 {
     let (pointer, length) = (state.as_mut_ptr(), state.len());
     // SAFETY: the pointer and the length are those of a slice lent for the call.
-    unsafe { c::setup(n.leads, n.volts, n.amperes, n.resistance, pointer, length) }
+    unsafe {
+        c::setup(
+            n.leads,
+            n.volts,
+            n.amperes,
+            n.resistance,
+            n.volts_error,
+            n.amperes_error,
+            pointer,
+            length,
+        )
+    }
 }
 
 #[inline]

@@ -1,7 +1,7 @@
 //! Readings near the edges of what is asked about them.
 
-use second::lead::{SAFE_AMPERES_IN_TENTHS, SAFE_VOLTS_IN_TENTHS};
-use second::readings::{Tenths, MOST_AMPERES, MOST_VOLTS};
+use second::lead::{Rating, SAFE_AMPERES_IN_TENTHS, SAFE_VOLTS_IN_TENTHS};
+use second::readings::{Measured, Tenths, MOST_AMPERES, MOST_VOLTS};
 
 use crate::dice::Dice;
 use crate::numbers::{SIGNALLING, TINY};
@@ -40,6 +40,13 @@ pub fn largest(tenths: Tenths) -> f32 {
     }
 }
 
+/// The largest float whose upper end is no more than so many tenths. There is none where the error
+/// alone is more.
+pub fn largest_within(limit: Tenths, error: Tenths) -> Option<f32> {
+    let left = limit.0.checked_sub(error.0)?;
+    Some(largest(Tenths(left)))
+}
+
 /// On either side of a value.
 pub fn around(value: f32, dice: &mut Dice) -> f32 {
     let [up, down] = [value.next_up(), value.next_down()];
@@ -52,8 +59,8 @@ fn up_to(value: f32, dice: &mut Dice) -> f32 {
     dice.pick(&[value, value, value.next_down(), value - 0.1, value - 0.5, value - 1.0])
 }
 
-/// A reading at an edge of what this phase asks. In phases 5 to 7 nearly all pass, so that charging
-/// goes on.
+/// A reading whose upper end is at an edge of what this phase asks. In phases 5 to 7 nearly all
+/// pass, so that charging goes on, unless the amperes' error alone is above the limit.
 pub fn at_an_edge(scene: Scene, standing: &Standing, dice: &mut Dice) -> Scene {
     let amperes = dice.pick(&SMALL);
     let safe = standing.meter_volts(SAFE_VOLTS_IN_TENTHS, amperes);
@@ -68,14 +75,67 @@ pub fn at_an_edge(scene: Scene, standing: &Standing, dice: &mut Dice) -> Scene {
         4 if dice.one_in(8) => scene.reads(MOST_VOLTS, amperes),
         4 => scene.reads(around(safe, dice).max(0.0), amperes),
         5 | 6 => {
-            let amperes = up_to(standing.most_amperes(), dice);
+            let most = standing.amperes_within(standing.most_amperes());
+            let amperes = up_to(most, dice).max(0.0);
             let most = standing.meter_volts(standing.most_volts(), amperes);
             scene.reads(up_to(most, dice).clamp(0.0, MOST_VOLTS), amperes)
         }
-        7 => scene.reads(20.25, around(largest(SAFE_AMPERES_IN_TENTHS), dice)),
+        7 => {
+            let safe = standing.amperes_within(SAFE_AMPERES_IN_TENTHS);
+            scene.reads(20.25, around(safe, dice).max(0.0))
+        }
         9 if dice.one_in(2) => scene.reads(around(safe, dice), amperes),
         // Any reading will do.
         _ => scene.reads(odd(dice), odd(dice)),
+    }
+}
+
+/// What a meter shows in a good reading, its error, and that of the other meter.
+pub struct Shown {
+    pub tenths: Tenths,
+    pub error: Tenths,
+    pub other_error: Tenths,
+}
+
+impl Shown {
+    /// At the connector.
+    pub fn volts(of: Measured, rating: &Rating) -> Shown {
+        Shown {
+            tenths: of.connector_volts,
+            error: rating.volts_error,
+            other_error: rating.amperes_error,
+        }
+    }
+
+    pub fn amperes(of: Measured, rating: &Rating) -> Shown {
+        Shown {
+            tenths: of.amperes,
+            error: rating.amperes_error,
+            other_error: rating.volts_error,
+        }
+    }
+
+    pub fn upper_end(&self) -> Tenths {
+        self.tenths.upper_end(self.error)
+    }
+
+    /// If the errors were exchanged.
+    pub fn other_end(&self) -> Tenths {
+        self.tenths.upper_end(self.other_error)
+    }
+
+    pub fn is_exact(&self) -> bool {
+        self.error == Tenths(0)
+    }
+
+    /// The upper end is at the limit, and that by an error.
+    pub fn is_at_by_error(&self, limit: Tenths) -> bool {
+        !self.is_exact() && self.upper_end() == limit
+    }
+
+    /// What is shown is within the limit, the upper end isn't.
+    pub fn is_above_by_error(&self, limit: Tenths) -> bool {
+        self.tenths <= limit && self.upper_end() > limit
     }
 }
 
@@ -103,7 +163,8 @@ pub fn not_good(mut scene: Scene, dice: &mut Dice) -> Scene {
 /// Question 16 gets a no, 17 now and then too.
 pub fn above_the_threshold(scene: Scene, standing: &Standing, dice: &mut Dice) -> Scene {
     let small = dice.pick(&SMALL);
-    let amperes = dice.pick(&[small, small, standing.most_amperes() + 1.0]);
+    let most = standing.amperes_within(standing.most_amperes());
+    let amperes = dice.pick(&[small, small, most + 1.0]);
     let most = standing.meter_volts(standing.most_volts(), amperes);
     let volts = dice.pick(&[most.next_up(), most + 0.05, most + 0.25, most + 1.0, MOST_VOLTS]);
     scene.reads(volts, amperes)
@@ -111,7 +172,7 @@ pub fn above_the_threshold(scene: Scene, standing: &Standing, dice: &mut Dice) -
 
 /// Question 17 gets a no.
 pub fn above_the_amperes(scene: Scene, standing: &Standing, dice: &mut Dice) -> Scene {
-    let most = standing.most_amperes();
+    let most = standing.amperes_within(standing.most_amperes());
     let amperes = dice.pick(&[most.next_up(), most + 0.1, most + 0.5, most + 2.5, MOST_AMPERES]);
     scene.reads(30.0, amperes)
 }

@@ -57,8 +57,8 @@ impl Plan {
         if phase == 6 && dice.one_in(15) {
             self.car.request = draw_request(&self.rating, dice);
         }
-        let onward = Scene::onward(phase, lead.command, &self.car);
-        let waiting = Scene::waiting(phase, lead.command, &self.car);
+        let onward = Scene::onward(phase, lead.command, &self.car).less_errors(&self.rating);
+        let waiting = Scene::waiting(phase, lead.command, &self.car).less_errors(&self.rating);
         let patient = lead.age < self.patience[usize::from(phase)];
         let mut scene = match self.stops.iter().find(|stop| stop.1 == phase) {
             // A reading could end the wait.

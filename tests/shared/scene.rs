@@ -3,6 +3,8 @@
 use second::frames::{CarStatus, CONTACTOR_OPEN, ENABLED};
 use second::inputs::LeadInput;
 use second::lead::contact::{CHARGE_PERMISSION, CONNECTOR_LOCK, PLUG, START_BUTTON};
+use second::lead::Rating;
+use second::readings::Tenths;
 
 pub const CLOSED: u8 = PLUG | CHARGE_PERMISSION | CONNECTOR_LOCK;
 
@@ -100,6 +102,19 @@ impl Scene {
 
     pub fn reads(mut self, volts: f32, amperes: f32) -> Scene {
         (self.volts, self.amperes) = (Some(volts), Some(amperes));
+        self
+    }
+
+    /// As meters show it that read too little by all of their errors: the upper ends, which are
+    /// judged, are what the scene says.
+    pub fn less_errors(mut self, rating: &Rating) -> Scene {
+        let less = |value: f32, error: Tenths| {
+            let error = error.0 as f32 / Tenths::IN_A_WHOLE as f32;
+            (value - error).max(0.0)
+        };
+        self.volts = self.volts.map(|volts| less(volts, rating.volts_error));
+        let amperes = self.amperes;
+        self.amperes = amperes.map(|amperes| less(amperes, rating.amperes_error));
         self
     }
 

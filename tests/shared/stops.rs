@@ -28,11 +28,12 @@ impl Standing {
         }
     }
 
-    pub fn most_amperes(&self) -> f32 {
-        meter::largest(Tenths::of_whole(self.rating.amperes.into()) + AMPERES_OVER_RATED_IN_TENTHS)
+    /// Question 17's limit.
+    pub fn most_amperes(&self) -> Tenths {
+        Tenths::of_whole(self.rating.amperes.into()) + AMPERES_OVER_RATED_IN_TENTHS
     }
 
-    /// At the connector.
+    /// Question 16's limit, at the connector.
     pub fn most_volts(&self) -> Tenths {
         Tenths::of_whole(self.threshold)
     }
@@ -41,9 +42,15 @@ impl Standing {
         INSULATION_OHMS_PER_VOLT * f32::from(self.threshold)
     }
 
-    /// What the meter shows, about, when the connector has these volts.
-    pub fn meter_volts(&self, connector: Tenths, amperes: f32) -> f32 {
-        meter::largest(connector) + self.rating.cable_resistance * amperes
+    /// The most amperes whose upper end is within a limit; 0 where there are none.
+    pub fn amperes_within(&self, limit: Tenths) -> f32 {
+        meter::largest_within(limit, self.rating.amperes_error).unwrap_or(0.0)
+    }
+
+    /// What the meter shows, about, when the upper end of the connector's volts is at a limit.
+    pub fn meter_volts(&self, limit: Tenths, amperes: f32) -> f32 {
+        let connector = meter::largest_within(limit, self.rating.volts_error).unwrap_or(0.0);
+        connector + self.rating.cable_resistance * amperes
     }
 }
 

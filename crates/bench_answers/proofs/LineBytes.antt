@@ -10,7 +10,7 @@ use borrow.Author.Tests.{leb-true}
 use Rattle.common.specs.Tests.{same}
 use Rattle.common.proofs.Bools.{and-second}
 use Rattle.bench_line.specs.Digits.{decimalOf, bitsOf, isPairs, bytesOf, padded}
-use Rattle.bench_line.specs.Lines.{push, fieldsOf, tickWord, setupWord, withNumber, decimalThen, afterAmperes, afterVolts, afterLeads, setupLine, tickLine, says, byWord, longest, parsedOf}
+use Rattle.bench_line.specs.Lines.{push, fieldsOf, tickWord, setupWord, withNumber, numberThen, decimalLast, afterVoltsError, afterBits, afterAmperes, afterVolts, afterLeads, setupLine, tickLine, says, byWord, longest, parsedOf}
 use Rattle.bench_line.specs.declared.numbers.Number.{Number}
 use Rattle.bench_line.specs.declared.numbers.Number.the-variants.{Value, Not}
 use Rattle.bench_line.specs.declared.lines.Line.{Line}
@@ -63,31 +63,35 @@ bytesSaid (Tick count) = count
 bytesSaid Other = 0
 
 -- a setup line says none
-module _ (next : ℕ → List (List ℕ) → Line) (none : (n : ℕ) (fs : List (List ℕ)) → bytesSaid (next n fs) ≡ 0) where
-  decimal-none : (fs : List (List ℕ)) → bytesSaid (decimalThen next fs) ≡ 0
-  decimal-none [] = refl
-  decimal-none (f ∷ fs) = go (decimalOf f)
+module _ (read : List ℕ → Number) (next : ℕ → List (List ℕ) → Line) (none : (n : ℕ) (fs : List (List ℕ)) → bytesSaid (next n fs) ≡ 0) where
+  number-none : (fs : List (List ℕ)) → bytesSaid (numberThen read next fs) ≡ 0
+  number-none [] = refl
+  number-none (f ∷ fs) = go (read f)
     where
       go : (m : Number) → bytesSaid (withNumber m (λ n. next n fs)) ≡ 0
       go (Value n) = none n fs
       go Not = refl
 
-bits-none : (leads volts amperes : ℕ) (fs : List (List ℕ)) → bytesSaid (afterAmperes leads volts amperes fs) ≡ 0
-bits-none leads volts amperes [] = refl
-bits-none leads volts amperes (f ∷ []) = go (bitsOf f)
-  where
-    go :
-        (m : Number)
-        → bytesSaid
-        (withNumber m (λ bits. Setup (record { leads = leads; volts = volts; amperes = amperes; resistance = bits })))
-        ≡ 0
-    go (Value n) = refl
-    go Not = refl
-bits-none leads volts amperes (f ∷ g ∷ fs) = refl
+module _ (next : ℕ → Line) (none : (n : ℕ) → bytesSaid (next n) ≡ 0) where
+  last-none : (fs : List (List ℕ)) → bytesSaid (decimalLast next fs) ≡ 0
+  last-none [] = refl
+  last-none (f ∷ []) = go (decimalOf f)
+    where
+      go : (m : Number) → bytesSaid (withNumber m next) ≡ 0
+      go (Value n) = none n
+      go Not = refl
+  last-none (f ∷ g ∷ fs) = refl
 
 setup-none : (fs : List (List ℕ)) → bytesSaid (setupLine fs) ≡ 0
 setup-none =
-    decimal-none afterLeads (λ leads. decimal-none (afterVolts leads) (λ volts. decimal-none (afterAmperes leads volts) (bits-none leads volts)))
+    number-none decimalOf afterLeads
+    (λ leads.
+    number-none decimalOf (afterVolts leads)
+    (λ volts.
+    number-none decimalOf (afterAmperes leads volts)
+    (λ amperes.
+    number-none bitsOf (afterBits leads volts amperes)
+    (λ bits. number-none decimalOf (afterVoltsError leads volts amperes bits) (λ error. last-none _ (λ n. refl))))))
 
 -- a tick line has `tick` and a tab before them
 tick-bytes :

@@ -50,6 +50,8 @@ pub(crate) fn set_up(numbers: SetupNumbers, state: &mut [u8]) -> u32
         numbers.volts,
         numbers.amperes,
         numbers.resistance,
+        numbers.errors.volts,
+        numbers.errors.amperes,
         &mut state[..end],
     )
 }

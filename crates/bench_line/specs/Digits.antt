@@ -29,7 +29,7 @@ valueFrom base n (c ∷ s) = valueFrom base (base * n + digitValue c) s
 unfoldable pub numberOf : ℕ → ℕ → List ℕ → Number
 numberOf base most s = cond (allDigits base s && leb (valueFrom base 0 s) most) (Value (valueFrom base 0 s)) Not
 
--- "Setup's first three numbers are decimal, at most 65,535"
+-- "Setup's first three numbers are decimal, at most 65,535"; 2026-08: "the two errors in decimal, at most 65,535"
 unfoldable pub decimalOf : List ℕ → Number
 decimalOf s = cond (eqb (length s) 0) Not (numberOf 10 65535 s)
 

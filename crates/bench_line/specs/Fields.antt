@@ -4,7 +4,6 @@ use mathlib.Core.List.{List, [], _∷_}
 use Prim.Native.Nat.{ℕ, suc, _+_}
 use lib.Dec.{ltb, eqb}
 use lib.ListN.{length, take}
-use Rattle.bench_line.specs.Digits.{decimalOf}
 use Rattle.bench_line.specs.declared.numbers.Number.{Number}
 use Rattle.bench_line.specs.declared.numbers.Number.the-variants.{Value, Not}
 use Rattle.bench_line.specs.declared.fields.Field.{Field}
@@ -15,10 +14,10 @@ abbrev pub firstTab : List ℕ → ℕ
 firstTab [] = 0
 firstTab (c ∷ s) = cond (eqb c 9) 0 (suc (firstTab s))
 
--- a decimal field that a tab ends, and where the fields behind it begin
+-- a number that a tab ends, and where the fields behind it begin
 abbrev pub fieldAt : Number → ℕ → Field
-fieldAt (Value n) end = field.At n (end + 1)
-fieldAt Not end = field.Not
+fieldAt (Value n) next = field.At n next
+fieldAt Not next = field.Not
 
-unfoldable pub numberField : List ℕ → Field
-numberField s = cond (ltb (firstTab s) (length s)) (fieldAt (decimalOf (take (firstTab s) s)) (firstTab s)) field.Not
+unfoldable pub fieldBy : (List ℕ → Number) → List ℕ → Field
+fieldBy read s = cond (ltb (firstTab s) (length s)) (fieldAt (read (take (firstTab s) s)) (firstTab s + 1)) field.Not

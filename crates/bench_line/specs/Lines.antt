@@ -32,29 +32,46 @@ abbrev pub withNumber : Number → (ℕ → Line) → Line
 withNumber (Value n) next = next n
 withNumber Not next = Other
 
--- a decimal field, and the fields behind it
-abbrev pub decimalThen : (ℕ → List (List ℕ) → Line) → List (List ℕ) → Line
-decimalThen next [] = Other
-decimalThen next (f ∷ fs) = withNumber (decimalOf f) (λ n. next n fs)
+-- a field that reads as a number, and the fields behind it
+abbrev pub numberThen : (List ℕ → Number) → (ℕ → List (List ℕ) → Line) → List (List ℕ) → Line
+numberThen read next [] = Other
+numberThen read next (f ∷ fs) = withNumber (read f) (λ n. next n fs)
 
--- the resistance bits, and no field behind them
-abbrev pub bitsLast : (ℕ → Line) → List (List ℕ) → Line
-bitsLast next [] = Other
-bitsLast next (f ∷ []) = withNumber (bitsOf f) next
-bitsLast next (f ∷ g ∷ fs) = Other
+-- a decimal field, and no field behind it
+abbrev pub decimalLast : (ℕ → Line) → List (List ℕ) → Line
+decimalLast next [] = Other
+decimalLast next (f ∷ []) = withNumber (decimalOf f) next
+decimalLast next (f ∷ g ∷ fs) = Other
 
--- "`setup`, leads, volts, amperes, resistance bits": the fields behind amperes, volts, leads and the word
+-- "`setup`, leads, volts, amperes, resistance bits", and 2026-08: "The bench program's setup line ends with the two errors … volts first". These
+-- are the fields behind the volts' error, the bits, amperes, volts, leads and the word.
+abbrev pub afterVoltsError : ℕ → ℕ → ℕ → ℕ → ℕ → List (List ℕ) → Line
+afterVoltsError leads volts amperes bits voltsError =
+    decimalLast
+    (λ amperesError.
+    Setup
+    (record {
+      leads = leads;
+      volts = volts;
+      amperes = amperes;
+      resistance = bits;
+      errors = record { volts = voltsError; amperes = amperesError };
+    }))
+
+abbrev pub afterBits : ℕ → ℕ → ℕ → ℕ → List (List ℕ) → Line
+afterBits leads volts amperes bits = numberThen decimalOf (afterVoltsError leads volts amperes bits)
+
 abbrev pub afterAmperes : ℕ → ℕ → ℕ → List (List ℕ) → Line
-afterAmperes leads volts amperes = bitsLast (λ bits. Setup (record { leads = leads; volts = volts; amperes = amperes; resistance = bits }))
+afterAmperes leads volts amperes = numberThen bitsOf (afterBits leads volts amperes)
 
 abbrev pub afterVolts : ℕ → ℕ → List (List ℕ) → Line
-afterVolts leads volts = decimalThen (afterAmperes leads volts)
+afterVolts leads volts = numberThen decimalOf (afterAmperes leads volts)
 
 abbrev pub afterLeads : ℕ → List (List ℕ) → Line
-afterLeads leads = decimalThen (afterVolts leads)
+afterLeads leads = numberThen decimalOf (afterVolts leads)
 
 abbrev pub setupLine : List (List ℕ) → Line
-setupLine = decimalThen afterLeads
+setupLine = numberThen decimalOf afterLeads
 
 -- what a line says, and what the lent buffer holds then
 pub record Parsed : Type 0 where

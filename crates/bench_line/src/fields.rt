@@ -1,15 +1,17 @@
 // Fields of a line.
 use super::numbers::Number;
+use super::numbers::bits;
 use super::numbers::decimal;
 ghost use mathlib.Core.Path.{_≡_};
 ghost use Prim.Native.Nat.{_≤_};
 ghost use lib.ListN.{length};
 ghost use Rattle.common.specs.Tests.{same};
-ghost use Rattle.bench_line.specs.Fields.{firstTab, numberField};
+ghost use Rattle.bench_line.specs.Digits.{decimalOf, bitsOf};
+ghost use Rattle.bench_line.specs.Fields.{firstTab, fieldAt, fieldBy};
 
 pub(crate) const TAB: u8 = b'\t';
 
-// A decimal field, and where the fields behind it begin.
+// A field that is a number, and where the fields behind it begin.
 pub enum Field {
     At { value: u32, next: usize },
     Not,
@@ -45,18 +47,31 @@ pub(crate) fn is_same(field: &[u8], word: &[u8]) -> bool
     true
 }
 
-pub(crate) fn number_field(fields: &[u8]) -> Field
-    ensures { λ r. ⌜ r ≡ numberField (now (fields .entry)) ⌝ }
+fn field_at(number: Number, next: usize) -> Field
+    ensures { λ r. ⌜ r ≡ fieldAt number next ⌝ }
+{
+    match number {
+        Number::Value(value) => Field::At { value, next },
+        Number::Not => Field::Not,
+    }
+}
+
+pub(crate) fn decimal_field(fields: &[u8]) -> Field
+    ensures { λ r. ⌜ r ≡ fieldBy decimalOf (now (fields .entry)) ⌝ }
 {
     let end = first_tab(fields);
     if end == fields.len() {
         return Field::Not;
     }
-    let Number::Value(value) = decimal(&fields[..end]) else {
+    field_at(decimal(&fields[..end]), end + 1)
+}
+
+pub(crate) fn bits_field(fields: &[u8]) -> Field
+    ensures { λ r. ⌜ r ≡ fieldBy bitsOf (now (fields .entry)) ⌝ }
+{
+    let end = first_tab(fields);
+    if end == fields.len() {
         return Field::Not;
-    };
-    Field::At {
-        value,
-        next: end + 1,
     }
+    field_at(bits(&fields[..end]), end + 1)
 }

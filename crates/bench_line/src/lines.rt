@@ -1,15 +1,17 @@
 // What a line says.
 use super::fields::Field;
+use super::fields::bits_field;
+use super::fields::decimal_field;
 use super::fields::first_tab;
 use super::fields::is_same;
-use super::fields::number_field;
 use super::numbers::Number;
 use super::numbers::are_pairs;
-use super::numbers::bits;
+use super::numbers::decimal;
 use super::numbers::write_bytes;
+use setup_numbers::SetupErrors;
 use setup_numbers::SetupNumbers;
 ghost use mathlib.Core.Path.{_≡_};
-ghost use Rattle.bench_line.specs.Lines.{fieldsOf, afterAmperes, afterVolts, afterLeads, setupLine, Parsed, tickLine, parsedOf};
+ghost use Rattle.bench_line.specs.Lines.{fieldsOf, afterVoltsError, afterBits, afterAmperes, afterVolts, afterLeads, setupLine, Parsed, tickLine, parsedOf};
 
 // The most characters of a line, without its line feed.
 pub const LONGEST: usize = 1000;
@@ -22,10 +24,17 @@ pub enum Line {
     Other,
 }
 
-fn after_amperes(fields: &[u8], leads: u32, volts: u32, amperes: u32) -> Line
-    ensures { λ r. ⌜ r ≡ afterAmperes leads volts amperes (fieldsOf (now (fields .entry))) ⌝ }
+fn after_volts_error(
+    fields: &[u8],
+    leads: u32,
+    volts: u32,
+    amperes: u32,
+    resistance: u32,
+    error: u32,
+) -> Line
+    ensures { λ r. ⌜ r ≡ afterVoltsError leads volts amperes resistance error (fieldsOf (now (fields .entry))) ⌝ }
 {
-    let Number::Value(resistance) = bits(fields) else {
+    let Number::Value(amperes_error) = decimal(fields) else {
         return Line::Other;
     };
     let numbers = SetupNumbers {
@@ -33,14 +42,36 @@ fn after_amperes(fields: &[u8], leads: u32, volts: u32, amperes: u32) -> Line
         volts,
         amperes,
         resistance,
+        errors: SetupErrors {
+            volts: error,
+            amperes: amperes_error,
+        },
     };
     Line::Setup(numbers)
+}
+
+fn after_bits(fields: &[u8], leads: u32, volts: u32, amperes: u32, resistance: u32) -> Line
+    ensures { λ r. ⌜ r ≡ afterBits leads volts amperes resistance (fieldsOf (now (fields .entry))) ⌝ }
+{
+    let Field::At { value, next } = decimal_field(fields) else {
+        return Line::Other;
+    };
+    after_volts_error(&fields[next..], leads, volts, amperes, resistance, value)
+}
+
+fn after_amperes(fields: &[u8], leads: u32, volts: u32, amperes: u32) -> Line
+    ensures { λ r. ⌜ r ≡ afterAmperes leads volts amperes (fieldsOf (now (fields .entry))) ⌝ }
+{
+    let Field::At { value, next } = bits_field(fields) else {
+        return Line::Other;
+    };
+    after_bits(&fields[next..], leads, volts, amperes, value)
 }
 
 fn after_volts(fields: &[u8], leads: u32, volts: u32) -> Line
     ensures { λ r. ⌜ r ≡ afterVolts leads volts (fieldsOf (now (fields .entry))) ⌝ }
 {
-    let Field::At { value, next } = number_field(fields) else {
+    let Field::At { value, next } = decimal_field(fields) else {
         return Line::Other;
     };
     after_amperes(&fields[next..], leads, volts, value)
@@ -49,7 +80,7 @@ fn after_volts(fields: &[u8], leads: u32, volts: u32) -> Line
 fn after_leads(fields: &[u8], leads: u32) -> Line
     ensures { λ r. ⌜ r ≡ afterLeads leads (fieldsOf (now (fields .entry))) ⌝ }
 {
-    let Field::At { value, next } = number_field(fields) else {
+    let Field::At { value, next } = decimal_field(fields) else {
         return Line::Other;
     };
     after_volts(&fields[next..], leads, value)
@@ -58,7 +89,7 @@ fn after_leads(fields: &[u8], leads: u32) -> Line
 fn setup_line(fields: &[u8]) -> Line
     ensures { λ r. ⌜ r ≡ setupLine (fieldsOf (now (fields .entry))) ⌝ }
 {
-    let Field::At { value, next } = number_field(fields) else {
+    let Field::At { value, next } = decimal_field(fields) else {
         return Line::Other;
     };
     after_leads(&fields[next..], value)

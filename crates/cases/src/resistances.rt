@@ -25,9 +25,9 @@ const RESISTANCE: usize = 4;
 
 fn set_up(resistance: u32) {
     let mut state = [0u8; STATE];
-    let number = setup(1, 500, 125, resistance, &mut state);
+    let number = setup(1, 500, 125, resistance, 0, 0, &mut state);
     io::write_all(STDOUT_FILENO, &[hex::digit_of(number), b'\t']);
-    for i in RESISTANCE..HEAD_SIZE {
+    for i in RESISTANCE..RESISTANCE + 4 {
         hex::write_byte(state[i]);
     }
     io::write_all(STDOUT_FILENO, &[b'\n']);

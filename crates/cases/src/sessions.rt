@@ -21,6 +21,9 @@ const RATED_AMPERES: u32 = 125;
 // 0.5 ohm.
 const RESISTANCE: u32 = 0x3F000000;
 
+// Both meters are exact.
+const METER_ERROR: u32 = 0;
+
 // The sizes of that post's state, input and output, and where the leads' inputs begin.
 const STATE: usize = HEAD_SIZE + 2 * StateRecord::SIZE;
 
@@ -151,7 +154,15 @@ fn write_ticks(step: Step, state: &mut [u8]) {
 }
 
 fn write_setup(state: &mut [u8]) {
-    let number = setup(LEADS, RATED_VOLTS, RATED_AMPERES, RESISTANCE, state);
+    let number = setup(
+        LEADS,
+        RATED_VOLTS,
+        RATED_AMPERES,
+        RESISTANCE,
+        METER_ERROR,
+        METER_ERROR,
+        state,
+    );
     io::write_all(STDOUT_FILENO, &[hex::digit_of(number), b'\n']);
 }
 

@@ -9,7 +9,7 @@ use post::LIMIT_SIZE;
 use post::setup;
 use post::tick;
 
-// The numbers of the setup: one lead, 500 V, 125 A, no cable resistance. Then the sizes of that post's state, input and output.
+// The numbers of the setup: one lead, 500 V, 125 A, no cable resistance, exact meters. Then the sizes of that post's state, input and output.
 const LEADS: u32 = 1;
 
 const RATED_VOLTS: u32 = 500;
@@ -17,6 +17,8 @@ const RATED_VOLTS: u32 = 500;
 const RATED_AMPERES: u32 = 125;
 
 const RESISTANCE: u32 = 0;
+
+const METER_ERROR: u32 = 0;
 
 const STATE: usize = HEAD_SIZE + StateRecord::SIZE;
 
@@ -34,7 +36,15 @@ pub(crate) fn whole_case() {
     let mut input = [0u8; INPUT];
     let mut output = [0u8; OUTPUT];
     input[CONTACTS] = PLUG_AND_START;
-    let number = setup(LEADS, RATED_VOLTS, RATED_AMPERES, RESISTANCE, &mut state);
+    let number = setup(
+        LEADS,
+        RATED_VOLTS,
+        RATED_AMPERES,
+        RESISTANCE,
+        METER_ERROR,
+        METER_ERROR,
+        &mut state,
+    );
     io::write_all(STDOUT_FILENO, &[hex::digit_of(number), b'\n']);
     let number = tick(&mut state, &input, &mut output);
     hex::write_done(number, &output);

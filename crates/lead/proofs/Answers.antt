@@ -163,9 +163,9 @@ pub record UrgentYes (c : Ratings) (i : Input) (s : Lead) : Type 0 where
   pub plug-closed : T (between 1 8 (s .stage .phase)) → T (i .contacts .plug)
   pub no-ground-fault : T (between 1 8 (s .stage .phase)) → T (not (i .contacts .leakage))
   pub permission-closed : T (between 2 7 (s .stage .phase)) → T (i .contacts .permission)
-  pub reading-good : T (between 3 7 (s .stage .phase)) → T (meterOf (i .reading) .good)
-  pub volts-in-range : T (between 5 7 (s .stage .phase)) → T (atMost (meterOf (i .reading) .volts) (mostVolts (s .threshold)))
-  pub amperes-in-range : T (between 5 7 (s .stage .phase)) → T (atMost (meterOf (i .reading) .amperes) (mostAmperes (c .amperes)))
+  pub reading-good : T (between 3 7 (s .stage .phase)) → T (meterOf (c .errors) (i .reading) .good)
+  pub volts-in-range : T (between 5 7 (s .stage .phase)) → T (atMost (meterOf (c .errors) (i .reading) .volts) (mostVolts (s .threshold)))
+  pub amperes-in-range : T (between 5 7 (s .stage .phase)) → T (atMost (meterOf (c .errors) (i .reading) .amperes) (mostAmperes (c .amperes)))
   pub lock-closed : T (between 3 7 (s .stage .phase)) → T (i .contacts .lock)
 
 -- The answers of questions 19 to 29. `car` is what the lead knows of the car once it has heard the tick's frames.

@@ -138,7 +138,7 @@ module _ (c : Ratings) (level : ℕ) (s : Lead) (g : Good c s) where
 -- a lead in phase 1 that moves on has a threshold from 50 to the rated volts
 module _
     (c : Ratings) (i : Input) (s : Lead) (wide : leastVolts ≤ c .volts) (e : s .stage .phase ≡ 1) (yes : OrdinaryYes c i s (hear i s .lead .car))
-    (met : MoveMet i s (hear i s .lead .car)) where
+    (met : MoveMet c i s (hear i s .lead .car)) where
   abbrev car : Car
   car = hear i s .lead .car
 

@@ -1,7 +1,7 @@
 -- Where each phase leads: each fact is one test, computed for every phase, verdict and move. Assumes nothing.
 use mathlib.Core.Bool.{Bool, true, false, not, _&&_, _||_}
 use mathlib.Core.Path.{_≡_, refl}
-use Prim.Native.Nat.{ℕ, _≤_}
+use Prim.Native.Nat.{ℕ, _+_, _≤_}
 use lib.Dec.{T, leb, eqb}
 use lib.Ieee.Fits.{and-l, and-r}
 use Rattle.common.specs.Tests.{between}
@@ -189,3 +189,11 @@ into1-6 p v may q = imp (between 1 6 q) (between 1 6 p && isPass v || eqb p 0 &&
 pub into-1-6 : Everywhere into1-6
 unfolding nextPhase
 into-1-6 = everywhere into1-6 (λ n. tt)
+
+-- out of 4 into 5, out of 7 into 8 and out of 9 into 10 by the move
+abbrev pub byMove : Test
+byMove p v may q = imp ((eqb p 4 || eqb p 7 || eqb p 9) && eqb q (p + 1)) may
+
+pub by-move : Everywhere byMove
+unfolding nextPhase
+by-move = everywhere byMove (λ n. tt)

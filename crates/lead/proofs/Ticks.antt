@@ -1,9 +1,10 @@
 -- What `decide` does to a lead, field by field. Assumes nothing.
 use mathlib.Core.Bool.{Bool, true, false, not, cond, _&&_, _||_}
-use mathlib.Core.Path.{_≡_, refl, sym}
+use mathlib.Core.Path.{_≡_, refl, sym, ap}
 use Prim.Native.Nat.{ℕ, _≤_}
 use native.Mathlib.Omega.{arith}
 use lib.Dec.{T, leb, eqb, eqb→eq}
+use lib.ListN.{getD}
 use lib.Ieee.Fits.{and-r}
 use borrow.Author.Tests.{eq-eqb, ne-eqb}
 use Rattle.readings.specs.Readings.{atMost}
@@ -20,6 +21,7 @@ use Rattle.lead.specs.declared.state.HeardLead.{HeardLead}
 use Rattle.lead.specs.declared.state.Car.{Car}
 use Rattle.lead.specs.declared.state.Ratings.{Ratings}
 use Rattle.lead.specs.declared.state.Input.{Input}
+use Rattle.lead.specs.declared.questions.View.{View}
 use Rattle.lead.specs.declared.questions.Verdict.{Verdict}
 use Rattle.common.proofs.Bools.{holds, below}
 
@@ -34,24 +36,33 @@ module _ (c : Ratings) (i : Input) (s : Lead) where
   abbrev pub start : Bool
   start = eqb (s .stage .phase) 0 && eqb phaseAfter 1
 
+-- what the move wants, by the phase
+pub wants-of : (v : View) (heard : HeardLead) (p : ℕ) → heard .lead .stage .phase ≡ p → mayMove v heard ≡ getD (moves v heard) p false
+unfolding mayMove
+wants-of v heard p e = ap (λ (n : ℕ). getD (moves v heard) n false) e
+
 -- What the move out of each phase asks for, in a tick that starts at s. `car` is what the lead knows of the car once it has heard the
 -- tick's frames.
-pub record MoveMet (i : Input) (s : Lead) (car : Car) : Type 0 where
+pub record MoveMet (c : Ratings) (i : Input) (s : Lead) (car : Car) : Type 0 where
   pub out-of-0 : s .stage .phase ≡ 0 → T (i .contacts .start && i .contacts .plug && not (i .contacts .emergency))
   pub out-of-1 :
       s .stage .phase ≡ 1
       → T (car .battery .seen && car .time .seen && car .status .seen && i .contacts .permission && signalsOf (car .status .value) .enabled)
   pub out-of-2 : s .stage .phase ≡ 2 → T (i .contacts .lock)
   pub out-of-3 : s .stage .phase ≡ 3 → T (isPresent (i .insulation))
-  pub out-of-4 : s .stage .phase ≡ 4 → T (atMost (meterOf (i .reading) .volts) dischargedVolts)
+  pub out-of-4 : s .stage .phase ≡ 4 → T (atMost (meterOf (c .errors) (i .reading) .volts) dischargedVolts)
   pub out-of-5 : s .stage .phase ≡ 5 → T (signalsOf (car .status .value) .closed)
-  pub out-of-7 : s .stage .phase ≡ 7 → T (eqb (s .command) 0 && atMost (meterOf (i .reading) .amperes) residualAmperes || leb rampDownEnd (s .stage .age))
+  pub out-of-7 :
+      s .stage .phase ≡ 7
+      → T (eqb (s .command) 0 && atMost (meterOf (c .errors) (i .reading) .amperes) residualAmperes || leb rampDownEnd (s .stage .age))
   pub out-of-8 : s .stage .phase ≡ 8 → T (not (signalsOf (car .status .value) .closed) || leb weldCheckEnd (s .stage .age))
-  pub out-of-9 : s .stage .phase ≡ 9 → T (meterOf (i .reading) .good && atMost (meterOf (i .reading) .volts) dischargedVolts)
+  pub out-of-9 :
+      s .stage .phase ≡ 9
+      → T (meterOf (c .errors) (i .reading) .good && atMost (meterOf (c .errors) (i .reading) .volts) dischargedVolts)
   pub out-of-10 : s .stage .phase ≡ 10 → T (not (i .contacts .plug))
 
 -- of a lead that has heard, so that its phase can be replaced
-met : (c : Ratings) (i : Input) (h : HeardLead) → T (mayMove (viewOf c i h) h) → MoveMet i (h .lead) (h .lead .car)
+met : (c : Ratings) (i : Input) (h : HeardLead) → T (mayMove (viewOf c i h) h) → MoveMet c i (h .lead) (h .lead .car)
 unfolding mayMove moves viewOf
 met c i h t =
     record {
@@ -67,7 +78,7 @@ met c i h t =
       out-of-10 = λ e. rw e at t;
     }
 
-pub move-met : (c : Ratings) (i : Input) (s : Lead) → T (may c i s) → MoveMet i s (hear i s .lead .car)
+pub move-met : (c : Ratings) (i : Input) (s : Lead) → T (may c i s) → MoveMet c i s (hear i s .lead .car)
 unfolding hear
 move-met c i s t =
     let m = met c i (hear i s) t in

@@ -32,17 +32,17 @@ moves v heard =
     ∷ v .contacts .lock
     -- "3 to 4: resistance given."
     ∷ v .present
-    -- "4 to 5: connector volts at most 10."
+    -- "4 to 5: connector volts", their upper end (2026-08), "at most 10."
     ∷ atMost (v .meter .volts) dischargedVolts
     -- "5 to 6: contactor closed."
     ∷ v .signals .closed
     -- phase 6 has no move
     ∷ false
-    -- "7 to 8: command 0 and amperes at most" 4.9 (2026-04), "or age 30 or more."
+    -- "7 to 8: command 0 and amperes", their upper end (2026-08), "at most" 4.9 (2026-04), "or age 30 or more."
     ∷ (eqb (s .command) 0 && atMost (v .meter .amperes) residualAmperes || leb rampDownEnd (s .stage .age))
     -- "8 to 9: contactor open, or age 40 or more"
     ∷ (not (v .signals .closed) || leb weldCheckEnd (s .stage .age))
-    -- "9 to 10: good reading, connector volts at most 10."
+    -- "9 to 10: good reading, connector volts", their upper end (2026-08), "at most 10."
     ∷ (v .meter .good && atMost (v .meter .volts) dischargedVolts)
     -- "10 to 0: plug open."
     ∷ not (v .contacts .plug)

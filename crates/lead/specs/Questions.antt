@@ -5,9 +5,11 @@ use Prim.Native.Nat.{ℕ, _-_, min}
 use lib.Dec.{leb, ltb, eqb}
 use lib.ListN.{getD, drop}
 use Rattle.common.specs.Tests.{between}
-use Rattle.readings.specs.Readings.{tenths, atMost, insulated}
+use Rattle.readings.specs.Readings.{ValueRange, upperEnd, atMost, insulated}
 use Rattle.readings.specs.declared.Reading.{Reading}
 use Rattle.readings.specs.declared.Reading.the-variants.{Value, Missing}
+use Rattle.readings.specs.declared.Tenths.{Tenths}
+use Rattle.readings.specs.declared.MeterErrors.{MeterErrors}
 use Rattle.readings.specs.declared.Judged.{Judged}
 use Rattle.readings.specs.declared.Judged.the-variants.{Good, Bad}
 use Rattle.frames.specs.Times.{chargingTicks}
@@ -26,10 +28,18 @@ use Rattle.lead.specs.declared.questions.View.{View}
 use Rattle.lead.specs.declared.questions.Verdict.{Verdict}
 use Rattle.lead.specs.declared.questions.Verdict.the-variants.{Pass, Urgent, Ordinary}
 
--- the figures of a good reading
-abbrev pub meterOf : Judged → Meter
-meterOf (Good volts amperes) = record { good = true; volts = volts; amperes = amperes }
-meterOf Bad = record { good = false; volts = tenths 0; amperes = tenths 0 }
+-- 2026-08: "For connector volts the range is their tenths with the volts' e alone; the amperes' e judges amperes only."
+abbrev pub voltsRange : MeterErrors → Tenths → ValueRange
+voltsRange errors volts = record { tenths = volts; error = errors .volts }
+
+abbrev pub amperesRange : MeterErrors → Tenths → ValueRange
+amperesRange errors amperes = record { tenths = amperes; error = errors .amperes }
+
+-- What is judged of a good reading. 2026-08: "Questions 16 and 17, both 10 V limits and the end of phase 7 judge the upper end."
+abbrev pub meterOf : MeterErrors → Judged → Meter
+meterOf errors (Good volts amperes) =
+    record { good = true; volts = upperEnd (voltsRange errors volts); amperes = upperEnd (amperesRange errors amperes) }
+meterOf errors Bad = record { good = false; volts = record { 0 = 0 }; amperes = record { 0 = 0 } }
 
 abbrev pub isPresent : Reading → Bool
 isPresent (Value x) = true
@@ -55,7 +65,7 @@ unfoldable pub viewOf : Ratings → Input → HeardLead → View
 viewOf c i heard =
     record {
       contacts = i .contacts;
-      meter = meterOf (i .reading);
+      meter = meterOf (c .errors) (i .reading);
       signals = signalsOf (heard .lead .car .status .value);
       revoked = revokes (i .status);
       rated = c .amperes;
@@ -113,9 +123,9 @@ questions v heard =
     ∷ giving (openedReason (s .stage .phase) (v .revoked)) (urgentRow permissionOpen 2 7 (v .contacts .permission))
     -- "15 Reading good? (3–7)"
     ∷ urgentRow badReading 3 7 (v .meter .good)
-    -- "16 Connector volts at most the threshold? (5–7)"
+    -- "16 Connector volts", their upper end (2026-08), "at most the threshold? (5–7)"
     ∷ urgentRow overvoltage 5 7 (atMost (v .meter .volts) (mostVolts (v .threshold)))
-    -- "17 Amperes at most rated" + 2.5 (2026-04)? "(5–7)"
+    -- "17 Amperes", their upper end (2026-08), "at most rated" + 2.5 (2026-04)? "(5–7)"
     ∷ urgentRow overcurrent 5 7 (atMost (v .meter .amperes) (mostAmperes (v .rated)))
     -- "18 Lock contact closed? (3–7)"
     ∷ urgentRow unlocked 3 7 (v .contacts .lock)

@@ -10,8 +10,10 @@ use super::state::Ratings;
 use frames::StatusFrame;
 use frames::VehicleSignals;
 use readings::Judged;
+use readings::MeterErrors;
 use readings::Reading;
 use readings::Tenths;
+use readings::UpperEnd;
 use readings::is_insulated;
 ghost use mathlib.Core.Path.{_≡_};
 ghost use mathlib.Core.Bool.{not, _&&_};
@@ -21,11 +23,11 @@ ghost use Rattle.readings.specs.Readings.{atMost};
 ghost use Rattle.lead.specs.Figures.{mostVolts, mostAmperes, dischargedVolts, residualAmperes};
 ghost use Rattle.lead.specs.Questions.{meterOf, isPresent, revokes, thresholdNow, ticksAllowed, viewOf, openedReason, questionsFrom, firstNo, ask, reasonOf};
 
-// The figures of a good reading.
+// What is judged of a good reading: the upper ends of its volts and amperes.
 pub struct Meter {
     pub good: bool,
-    pub volts: Tenths,
-    pub amperes: Tenths,
+    pub volts: UpperEnd,
+    pub amperes: UpperEnd,
 }
 
 // What the questions and the moves look at beside the lead's own numbers: contacts, meter, what the bits of the newest H'102 say,
@@ -64,19 +66,19 @@ impl Verdict {
 }
 
 impl Meter {
-    fn from_reading(reading: Judged) -> Meter
-        ensures { λ r. ⌜ r ≡ meterOf reading ⌝ }
+    fn from_reading(errors: MeterErrors, reading: Judged) -> Meter
+        ensures { λ r. ⌜ r ≡ meterOf errors reading ⌝ }
     {
         match reading {
             Judged::Good { volts, amperes } => Meter {
                 good: true,
-                volts,
-                amperes,
+                volts: volts.upper_end(errors.volts),
+                amperes: amperes.upper_end(errors.amperes),
             },
             Judged::Bad => Meter {
                 good: false,
-                volts: Tenths(0),
-                amperes: Tenths(0),
+                volts: UpperEnd(0),
+                amperes: UpperEnd(0),
             },
         }
     }
@@ -182,6 +184,7 @@ impl HeardLead {
         ensures { λ r. ⌜ r ≡ viewOf ratings input self ⌝ }
     {
         let contacts = input.contacts;
+        let errors = ratings.errors;
         let reading = input.reading;
         let insulation = input.insulation;
         let frame = input.status;
@@ -190,7 +193,7 @@ impl HeardLead {
         let threshold = self.threshold_now(ratings);
         View {
             contacts,
-            meter: Meter::from_reading(reading),
+            meter: Meter::from_reading(errors, reading),
             signals: status.signals(),
             revoked: is_revoking(frame),
             rated: ratings.amperes,

@@ -9,15 +9,17 @@ use frames::TensOfSeconds;
 use frames::TimeFrame;
 use frames::VehicleStatus;
 use readings::Judged;
+use readings::MeterErrors;
 use readings::Reading;
 ghost use mathlib.Core.Path.{_≡_};
 ghost use Rattle.lead.specs.Leads.{blank, fresh};
 
-// Rated volts and amperes, and the cable resistance as its float's bits.
+// Rated volts and amperes, the cable resistance as its float's bits, and the meters' errors.
 pub struct Ratings {
     pub volts: u16,
     pub amperes: u8,
     pub resistance: u32,
+    pub errors: MeterErrors,
 }
 
 // Energy is what was commanded since the start, in watt-ticks; command is in amperes; the threshold voltage is 0 until it is kept.

@@ -4,7 +4,7 @@ use mathlib.Core.List.{List, [], _∷_}
 use mathlib.Core.Path.{_≡_, refl, _∙_}
 use Prim.Native.Nat.{ℕ, _≤_, _<_}
 use native.Mathlib.Omega.{arith}
-use lib.Dec.{T, eqb, eqb→eq}
+use lib.Dec.{T, leb, eqb, leb→le, eqb→eq}
 use lib.ListN.{length}
 use lib.Ieee.Fits.{and-l, and-r}
 use borrow.Author.Tests.{eq-eqb, ne-eqb}
@@ -15,16 +15,18 @@ use Rattle.common.proofs.Refused.{AllMet, all-met, then-asked, none-refused}
 use Rattle.readings.specs.Readings.{allowedResistance}
 use Rattle.lead_records.specs.States.{goodState}
 use Rattle.post.specs.Heads.{headSize, stateLength, inputLength, outputLength, headOf, statePart}
-use Rattle.post.specs.Refusals.{headRows, setupRows, goodHead, goodPost, inputRows, tickRows}
+use Rattle.post.specs.Refusals.{mostError, headRows, setupRows, goodHead, goodPost, inputRows, tickRows}
 use Rattle.post.specs.declared.head.Head.{Head}
 
--- setup's questions 1 to 4 got a yes: what those above need of the answers
+-- setup's questions 1 to 4 and 32 got a yes: what those above need of the answers
 pub record Taken (h : Head) : Type 0 where
   pub few-leads : h .leads ≤ 4
   pub volts-least : 50 ≤ h .ratings .volts
   pub volts-most : h .ratings .volts ≤ 500
   pub amperes-most : h .ratings .amperes ≤ 200
   pub allowed : allowedResistance (h .ratings .resistance) ≡ true
+  pub volts-error-most : h .ratings .errors .volts ≤ mostError
+  pub amperes-error-most : h .ratings .errors .amperes ≤ mostError
 
 pub head-met : (h : Head) → refusalOf (headRows h) ≡ 0 → AllMet (headRows h)
 unfolding headRows
@@ -34,12 +36,16 @@ pub head-taken : (h : Head) → refusalOf (headRows h) ≡ 0 → Taken h
 unfolding headRows
 head-taken h e =
     let met = head-met h e in
+    let e₁ : ℕ = h .ratings .errors .volts in
+    let e₂ : ℕ = h .ratings .errors .amperes in
     record {
       few-leads = between-hi 1 4 (h .leads) (met .0);
       volts-least = between-lo 50 500 (h .ratings .volts) (met .1 .0);
       volts-most = between-hi 50 500 (h .ratings .volts) (met .1 .0);
       amperes-most = between-hi 1 200 (h .ratings .amperes) (met .1 .1 .0);
       allowed = is-true (allowedResistance (h .ratings .resistance)) (met .1 .1 .1 .0);
+      volts-error-most = leb→le e₁ mostError (and-l (leb e₁ mostError) (leb e₂ mostError) (met .1 .1 .1 .1 .0));
+      amperes-error-most = leb→le e₂ mostError (and-r (leb e₁ mostError) (leb e₂ mostError) (met .1 .1 .1 .1 .0));
     }
 
 pub good-taken : (h : Head) → T (goodHead h) → Taken h

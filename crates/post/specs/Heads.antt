@@ -13,9 +13,9 @@ use Rattle.setup_numbers.specs.declared.SetupNumbers.{SetupNumbers}
 abbrev pub mostLeads : ℕ
 mostLeads = 4
 
--- "State: 8 bytes (…), then 32 a lead"
+-- "State: … bytes (…), then 32 a lead"; 2026-08: "the head's end, which grows to 10"
 abbrev pub headSize : ℕ
-headSize = 8
+headSize = 10
 
 -- "Input: allowance (4), then 104 a lead"
 abbrev pub limitSize : ℕ
@@ -42,15 +42,35 @@ outputPart output k = part 0 outputSize k output
 
 -- of the numbers that setup is given
 abbrev pub headFrom : SetupNumbers → Head
-headFrom n = record { leads = n .leads; ratings = record { volts = n .volts; amperes = n .amperes; resistance = n .resistance } }
+headFrom n =
+    record {
+      leads = n .leads;
+      ratings =
+          record {
+            volts = n .volts;
+            amperes = n .amperes;
+            resistance = n .resistance;
+            errors = record { volts = n .errors .volts; amperes = n .errors .amperes };
+          };
+    }
 
--- "leads; rated amperes; rated volts, 2; resistance as float, 4"
+-- "leads; rated amperes; rated volts, 2; resistance as float, 4"; 2026-08: the errors, "volts first, in two bytes at the head's end"
 unfoldable pub headOf : List ℕ → Head
 headOf state =
     record {
       leads = byteAt state 0;
-      ratings = record { volts = u16At state 2; amperes = byteAt state 1; resistance = u32At state 4 };
+      ratings =
+          record {
+            volts = u16At state 2;
+            amperes = byteAt state 1;
+            resistance = u32At state 4;
+            errors = record { volts = byteAt state 8; amperes = byteAt state 9 };
+          };
     }
 
 unfoldable pub headBytes : Head → List ℕ
-headBytes h = (h .leads ∷ h .ratings .amperes ∷ []) ++ u16Bytes (h .ratings .volts) ++ u32Bytes (h .ratings .resistance)
+headBytes h =
+    (h .leads ∷ h .ratings .amperes ∷ [])
+    ++ u16Bytes (h .ratings .volts)
+    ++ u32Bytes (h .ratings .resistance)
+    ++ (h .ratings .errors .volts ∷ h .ratings .errors .amperes ∷ [])

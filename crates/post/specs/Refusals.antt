@@ -2,7 +2,7 @@
 use mathlib.Core.Bool.{Bool, _&&_}
 use mathlib.Core.List.{List, [], _∷_, _++_}
 use Prim.Native.Nat.{ℕ}
-use lib.Dec.{eqb}
+use lib.Dec.{leb, eqb}
 use lib.ListN.{length}
 use Rattle.common.specs.Tests.{between}
 use Rattle.common.specs.Parts.{every}
@@ -13,20 +13,25 @@ use Rattle.lead_records.specs.Inputs.{goodInput}
 use Rattle.post.specs.Heads.{mostLeads, stateLength, inputLength, outputLength, headOf, statePart, inputPart}
 use Rattle.post.specs.declared.head.Head.{Head}
 
--- "1 to 4 leads? (1) Rated volts 50–500? (2) Rated amperes 1–200? (3) Resistance 0 to 1, so no NaN? (4)"
+-- 2026-08: "Turned away: 32, when either e is above 50"
+abbrev pub mostError : ℕ
+mostError = 50
+
+-- "1 to 4 leads? (1) Rated volts 50–500? (2) Rated amperes 1–200? (3) Resistance 0 to 1, so no NaN? (4)" 32 is "asked after 4 and before 5".
 unfoldable pub headRows : Head → List Asked
 headRows h =
     asks (between 1 mostLeads (h .leads)) 1
     ∷ asks (between 50 500 (h .ratings .volts)) 2
     ∷ asks (between 1 200 (h .ratings .amperes)) 3
     ∷ asks (allowedResistance (h .ratings .resistance)) 4
+    ∷ asks (leb (h .ratings .errors .volts) mostError && leb (h .ratings .errors .amperes) mostError) 32
     ∷ []
 
--- "State exactly 8 + 32 × leads bytes? (5)" `room` is the state's length.
+-- "State exactly" 10 (2026-08) "+ 32 × leads bytes? (5)" `room` is the state's length.
 unfoldable pub setupRows : Head → ℕ → List Asked
 setupRows h room = headRows h ++ (asks (eqb room (stateLength (h .leads))) 5 ∷ [])
 
--- "head as setup takes it"
+-- "head as setup takes it"; 2026-08: "a stored head with such an e is refused as 6"
 abbrev pub goodHead : Head → Bool
 goodHead h = eqb (refusalOf (headRows h)) 0
 

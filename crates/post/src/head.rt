@@ -9,7 +9,9 @@ use little_endian::low_byte;
 use little_endian::u16_at;
 use little_endian::u32_at;
 use little_endian::u32_bytes;
+use readings::MeterErrors;
 use readings::is_allowed_resistance;
+use setup_numbers::SetupErrors;
 use setup_numbers::SetupNumbers;
 ghost use mathlib.Core.Path.{_≡_};
 ghost use Prim.Native.Nat.{_≤_};
@@ -25,7 +27,7 @@ pub struct Head {
 }
 
 impl Head {
-    pub const SIZE: usize = 8;
+    pub const SIZE: usize = 10;
 
     const LEADS: usize = 0;
 
@@ -34,6 +36,10 @@ impl Head {
     const VOLTS: usize = 2;
 
     const RESISTANCE: usize = 4;
+
+    const VOLTS_ERROR: usize = 8;
+
+    const AMPERES_ERROR: usize = 9;
 
     // Of numbers that setup does not refuse.
     pub(crate) fn from_numbers(numbers: SetupNumbers) -> Head
@@ -46,6 +52,10 @@ impl Head {
                 volts: numbers.volts as u16,
                 amperes: numbers.amperes as u8,
                 resistance: numbers.resistance,
+                errors: MeterErrors {
+                    volts: numbers.errors.volts as u8,
+                    amperes: numbers.errors.amperes as u8,
+                },
             },
         }
     }
@@ -60,6 +70,10 @@ impl Head {
                 volts: u16_at(state, Head::VOLTS),
                 amperes: state[Head::AMPERES],
                 resistance: u32_at(state, Head::RESISTANCE),
+                errors: MeterErrors {
+                    volts: state[Head::VOLTS_ERROR],
+                    amperes: state[Head::AMPERES_ERROR],
+                },
             },
         }
     }
@@ -78,6 +92,8 @@ impl Head {
         bytes[Head::RESISTANCE + 1] = resistance[1];
         bytes[Head::RESISTANCE + 2] = resistance[2];
         bytes[Head::RESISTANCE + 3] = resistance[3];
+        bytes[Head::VOLTS_ERROR] = ratings.errors.volts;
+        bytes[Head::AMPERES_ERROR] = ratings.errors.amperes;
         bytes
     }
 
@@ -90,12 +106,19 @@ impl Head {
             volts: ratings.volts as u32,
             amperes: ratings.amperes as u32,
             resistance: ratings.resistance,
+            errors: SetupErrors {
+                volts: ratings.errors.volts as u32,
+                amperes: ratings.errors.amperes as u32,
+            },
         };
         head_refusal(numbers) == Refusal::NONE
     }
 }
 
-// Setup's questions 1 to 4.
+// The most that a meter may be off, in tenths.
+const MOST_ERROR: u32 = 50;
+
+// Setup's questions but the last: 1 to 4, and 32.
 pub(crate) fn head_refusal(numbers: SetupNumbers) -> u32
     ensures { λ r. ⌜ r ≡ refusalOf (headRows (headFrom numbers)) ⌝ }
 {
@@ -108,8 +131,11 @@ pub(crate) fn head_refusal(numbers: SetupNumbers) -> u32
     if !is_between(1, 200, numbers.amperes) {
         return Refusal::RATED_AMPERES;
     }
+    if !is_allowed_resistance(numbers.resistance) {
+        return Refusal::CABLE_RESISTANCE;
+    }
     unless(
-        is_allowed_resistance(numbers.resistance),
-        Refusal::CABLE_RESISTANCE,
+        (numbers.errors.volts <= MOST_ERROR) & (numbers.errors.amperes <= MOST_ERROR),
+        Refusal::METER_ERROR,
     )
 }

@@ -22,24 +22,33 @@ pub use lengths::state_length;
 use names::Refusal;
 use refusals::setup_refusal;
 use refusals::tick_refusal;
+use setup_numbers::SetupErrors;
 use setup_numbers::SetupNumbers;
 use ticks::carry_out;
 ghost use mathlib.Core.Path.{_≡_};
 ghost use Rattle.post.specs.Heads.{headFrom};
 ghost use Rattle.post.specs.Calls.{SetUp, setupOf, Ticked, tickOf};
 
-// Writes a fresh state. The resistance is the cable's, as its float's bits. Returns 0, or the number of the first question that gets a
-// no, and then nothing has changed.
+// Writes a fresh state. The resistance is the cable's, as its float's bits; the errors are the meters', in tenths. Returns 0, or the
+// number of the first question that gets a no, and then nothing has changed.
 #[no_mangle]
 pub extern "C" fn setup(
     leads: u32,
     rated_volts: u32,
     rated_amperes: u32,
     resistance: u32,
+    volts_error: u32,
+    amperes_error: u32,
     state: &mut [u8],
 ) -> u32
     ensures { λ r. ⌜ _≡_ {A = SetUp} (record { number = r; state = now (state .exit) })
-        (setupOf (headFrom (record { leads = leads; volts = «rated_volts»; amperes = «rated_amperes»; resistance = resistance }))
+        (setupOf (headFrom (record {
+          leads = leads;
+          volts = «rated_volts»;
+          amperes = «rated_amperes»;
+          resistance = resistance;
+          errors = record { volts = «volts_error»; amperes = «amperes_error» };
+        }))
         (now (state .entry))) ⌝ }
 {
     let numbers = SetupNumbers {
@@ -47,6 +56,10 @@ pub extern "C" fn setup(
         volts: rated_volts,
         amperes: rated_amperes,
         resistance,
+        errors: SetupErrors {
+            volts: volts_error,
+            amperes: amperes_error,
+        },
     };
     let room = state.len();
     let refusal = setup_refusal(numbers, room);

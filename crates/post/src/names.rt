@@ -4,7 +4,7 @@ pub struct Refusal;
 impl Refusal {
     pub const NONE: u32 = 0;
 
-    // Setup's.
+    // Setup's, in the order of asking.
     pub const LEADS: u32 = 1;
 
     pub const RATED_VOLTS: u32 = 2;
@@ -12,6 +12,8 @@ impl Refusal {
     pub const RATED_AMPERES: u32 = 3;
 
     pub const CABLE_RESISTANCE: u32 = 4;
+
+    pub const METER_ERROR: u32 = 32;
 
     pub const STATE_LENGTH: u32 = 5;
 

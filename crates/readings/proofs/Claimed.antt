@@ -1,15 +1,15 @@
--- The claims of request 2026-04 hold, and what is worked out is what it is said to be. Assumes nothing.
+-- The claims of requests 2026-04 and 2026-08 hold, and what is worked out is what it is said to be. Assumes nothing.
 use mathlib.Core.Path.{_≡_, refl, ap, _∙_, subst}
 use mathlib.Core.Bool.{Bool, true, false, cond}
 use mathlib.Core.List.{map}
 use Prim.Native.Nat.{ℕ}
 use native.Mathlib.Omega.{arith}
 use native.Mathlib.Nat.{le-antisymm}
-use lib.Dec.{T, leb, lit<}
+use lib.Dec.{T, leb, lit<, leb→le, le→leb}
 use lib.Ieee.{Float, binary32, ofBits, ofInt, le, lt, eq, mul, sub}
 use Rattle.readings.specs.Value.{within, least, tenthsPerUnit}
-use Rattle.readings.specs.Readings.{readingOf, inRange, connectorVolts, inTenths, judgedOf, allowedResistance, tenths, wholeUnits}
-use Rattle.readings.specs.Claims.{IsLeast, OfEachGood, LeastTenth, LeastWhole, WholeLimits, workedFloats, workedReadings}
+use Rattle.readings.specs.Readings.{readingOf, inRange, connectorVolts, inTenths, judgedOf, allowedResistance, tenths, ofUnits, ValueRange, upperEnd, exactly, atMost, wholeUnits}
+use Rattle.readings.specs.Claims.{IsLeast, OfEachGood, LeastTenth, LeastWhole, WholeLimits, ExactEnds, EachAtMost, workedFloats, workedReadings}
 use Rattle.readings.specs.declared.Measurement.{Measurement}
 use Rattle.readings.specs.declared.Tenths.{Tenths}
 use Rattle.readings.specs.declared.Judged.the-variants.{Good, Bad}
@@ -43,10 +43,32 @@ least-tenth = of-each-good _ is-least-tenth
 pub least-whole : LeastWhole
 least-whole = of-each-good _ is-least-whole
 
+pub exact-ends : ExactEnds
+exact-ends judged = (omega arith, omega arith)
+
+-- an exact meter is judged by its reading
+exact-limit : (judged most : Tenths) → atMost (upperEnd (exactly judged)) most ≡ leb (judged .0) (most .0)
+exact-limit judged most = ap (λ (n : ℕ). leb n (most .0)) (exact-ends judged .1)
+
 pub whole-limits : WholeLimits
 whole-limits =
     of-each-good _
-    (λ x t n units whole. ceilings.whole-limit (least x) tenthsPerUnit units (lit< tt) ∙ ap (λ (m : ℕ). leb m units) (only-one (is-least-whole x t) whole))
+    (λ x t n units whole.
+    exact-limit (tenths (least x)) (ofUnits units)
+    ∙ ceilings.whole-limit (least x) tenthsPerUnit units (lit< tt)
+    ∙ ap (λ (m : ℕ). leb m units) (only-one (is-least-whole x t) whole))
+
+pub each-at-most : (range : ValueRange) (most : Tenths) → EachAtMost range most
+each-at-most range most =
+    record {
+      each =
+          λ passes x stands.
+          le→leb (upperEnd (exactly x) .0) (most .0) (omega (arith, stands .to, leb→le (upperEnd range .0) (most .0) passes));
+      only =
+          λ all.
+          let top : Tenths = tenths (upperEnd range .0) in
+          subst T (exact-limit top most) (all top (record { from = omega arith; to = omega arith }));
+    }
 
 pub worked-tenths : map (λ case. least (ofBits binary32 (case .bits))) workedFloats ≡ map (λ case. case .tenths) workedFloats
 unfolding least ofBits

@@ -1,12 +1,12 @@
--- Request 2026-04: what it says of readings, and some floats and readings worked out. Definitions only.
+-- Requests 2026-04 and 2026-08: what they say of readings, and some floats and readings worked out. Definitions only.
 use mathlib.Core.Bool.{true}
 use mathlib.Core.List.{List, [], _∷_}
 use mathlib.Core.Path.{_≡_}
 use Prim.Native.Nat.{ℕ, _≤_}
-use lib.Dec.{leb}
+use lib.Dec.{T, leb}
 use lib.Ieee.{Float, binary32, ofBits}
 use Rattle.readings.specs.Value.{NotBelow}
-use Rattle.readings.specs.Readings.{connectorVolts, judgedOf, allowedResistance, ofUnits, atMost, wholeUnits}
+use Rattle.readings.specs.Readings.{connectorVolts, judgedOf, allowedResistance, ofUnits, ValueRange, lowerEnd, upperEnd, exactly, atMost, wholeUnits}
 use Rattle.readings.specs.declared.Reading.the-variants.{Value}
 use Rattle.readings.specs.declared.Tenths.{Tenths}
 use Rattle.readings.specs.declared.Judged.the-variants.{Good}
@@ -37,9 +37,25 @@ LeastTenth = OfEachGood (λ x judged. IsLeast 10 x (judged .0))
 abbrev pub LeastWhole : Type 0
 LeastWhole = OfEachGood (λ x judged. IsLeast 1 x (wholeUnits judged))
 
--- "compare in tenths": a limit of whole volts or amperes answers in tenths as it does of the least whole number not below the value
+-- "compare in tenths": with an exact meter a limit of whole volts or amperes answers in tenths as it does of the least whole number not below the
+-- value
 abbrev pub WholeLimits : Type 0
-WholeLimits = OfEachGood (λ x judged. (n units : ℕ) → IsLeast 1 x n → atMost judged (ofUnits units) ≡ leb n units)
+WholeLimits = OfEachGood (λ x judged. (n units : ℕ) → IsLeast 1 x n → atMost (upperEnd (exactly judged)) (ofUnits units) ≡ leb n units)
+
+-- 2026-08: "A reading stands for every value from tenths − e (at least 0) to tenths + e."
+pub record StandsFor (range : ValueRange) (x : Tenths) : Type 0 where
+  pub from : lowerEnd range .0 ≤ x .0
+  pub to : x .0 ≤ upperEnd range .0
+
+-- "With e = 0 all answers are those before": both ends of the range are the reading's tenths.
+abbrev pub ExactEnds : Type 0
+ExactEnds = (judged : Tenths) → (lowerEnd (exactly judged) .0 ≡ judged .0) × (upperEnd (exactly judged) .0 ≡ judged .0)
+
+-- "Wherever such a question is passed, each value in the range would have passed it": where the upper end is at most so much each value is, and
+-- where each is the upper end is.
+pub record EachAtMost (range : ValueRange) (most : Tenths) : Type 0 where
+  pub each : T (atMost (upperEnd range) most) → (x : Tenths) → StandsFor range x → T (atMost (upperEnd (exactly x)) most)
+  pub only : ((x : Tenths) → StandsFor range x → T (atMost (upperEnd (exactly x)) most)) → T (atMost (upperEnd range) most)
 
 -- the bits of a float, its tenths and the whole number that H'109 carries of it
 pub record Worked : Type 0 where

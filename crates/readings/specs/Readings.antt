@@ -1,6 +1,6 @@
--- Document 01, 'Readings', as request 2026-04 amends it, and question 27. Definitions only.
+-- Document 01, 'Readings', as requests 2026-04 and 2026-08 amend it, and question 27. Definitions only.
 use mathlib.Core.Bool.{Bool, true, false, cond, _&&_}
-use Prim.Native.Nat.{ℕ, _*_}
+use Prim.Native.Nat.{ℕ, _+_, _-_, _*_}
 use lib.Dec.{leb}
 use lib.Ieee.{Float, binary32, le, lt, mul, sub, ofBits}
 use Rattle.readings.specs.Value.{number, within, ceiling, tenthsPerUnit, least}
@@ -8,6 +8,8 @@ use Rattle.readings.specs.declared.Reading.{Reading}
 use Rattle.readings.specs.declared.Reading.the-variants.{Value, Missing}
 use Rattle.readings.specs.declared.Measurement.{Measurement}
 use Rattle.readings.specs.declared.Tenths.{Tenths}
+use Rattle.readings.specs.declared.MeterErrors.{MeterErrors}
+use Rattle.readings.specs.declared.UpperEnd.{UpperEnd}
 use Rattle.readings.specs.declared.Judged.{Judged}
 use Rattle.readings.specs.declared.Judged.the-variants.{Good, Bad}
 
@@ -48,9 +50,28 @@ judgedOf Missing amperes bits = Bad
 abbrev pub ofUnits : ℕ → Tenths
 ofUnits units = tenths (tenthsPerUnit * units)
 
--- what readings are asked: "at most" some tenths
-abbrev pub atMost : Tenths → Tenths → Bool
-atMost judged most = leb (judged .0) (most .0)
+-- 2026-08: "A reading stands for every value from tenths − e (at least 0) to tenths + e."
+pub record ValueRange : Type 0 where
+  pub tenths : Tenths
+  pub error : ℕ
+
+abbrev pub lowerEnd : ValueRange → Tenths
+lowerEnd range = tenths (range .tenths .0 - range .error)
+
+-- It is not cut off: it may be above the 1000 V and 400 A that a good reading is asked for.
+abbrev pub upperEnd : ValueRange → UpperEnd
+upperEnd range = record { 0 = range .tenths .0 + range .error }
+
+-- "e = 0": of a reading, and of both meters
+abbrev pub exactly : Tenths → ValueRange
+exactly judged = record { tenths = judged; error = 0 }
+
+abbrev pub exactMeters : MeterErrors
+exactMeters = record { volts = 0; amperes = 0 }
+
+-- what readings are asked, by their upper end: "at most" some tenths
+abbrev pub atMost : UpperEnd → Tenths → Bool
+atMost end most = leb (end .0) (most .0)
 
 -- 2026-04: "H'109 still carries whole numbers, rounded up from tenths."
 abbrev pub wholeUnits : Tenths → ℕ

@@ -1,4 +1,5 @@
-// The meter board's readings: document 01, 'Readings', as request 2026-04 amends it, and question 27. Rests on little_endian and common.
+// The meter board's readings: document 01, 'Readings', as requests 2026-04 and 2026-08 amend it, and question 27. Rests on little_endian and
+// common.
 // Floats end here: the layers above see tenths, and hold a float only inside a Reading.
 mod floats;
 
@@ -10,7 +11,7 @@ ghost use mathlib.Core.Bool.{true};
 ghost use lib.ListN.{length};
 ghost use Rattle.little_endian.specs.Numbers.{u32At};
 ghost use Rattle.readings.specs.Value.{within};
-ghost use Rattle.readings.specs.Readings.{readingOf, connectorVolts, inRange, inTenths, judgedMeasurement, judgedOf, ofUnits, atMost, wholeUnits, insulated, allowedResistance};
+ghost use Rattle.readings.specs.Readings.{readingOf, connectorVolts, inRange, inTenths, judgedMeasurement, judgedOf, ofUnits, atMost, upperEnd, wholeUnits, insulated, allowedResistance};
 
 // One value of the meter board.
 pub enum Reading {
@@ -34,6 +35,15 @@ pub enum Judged {
     Bad,
 }
 
+// How far off each meter may be, in tenths (2026-08).
+pub struct MeterErrors {
+    pub volts: u8,
+    pub amperes: u8,
+}
+
+// The largest value, in tenths, that a reading stands for by its meter's error (2026-08). It may not fit two bytes.
+pub struct UpperEnd(pub u32);
+
 impl Reading {
     // From the float's four bytes, where the input's present bit is set.
     pub fn from_bytes(bytes: &[u8], present: bool) -> Reading
@@ -52,17 +62,11 @@ impl Tenths {
     // So many to a volt and to an ampere.
     pub const PER_UNIT: u16 = 10;
 
-    pub fn is_at_most(self, most: Tenths) -> bool
-        ensures { λ r. ⌜ r ≡ atMost self most ⌝ }
+    // By the error of the meter, in tenths.
+    pub fn upper_end(self, error: u8) -> UpperEnd
+        ensures { λ r. ⌜ r ≡ upperEnd (record { tenths = self; error = error }) ⌝ }
     {
-        self.0 <= most.0
-    }
-
-    // The limit is in whole volts or amperes. In tenths it may not fit two bytes.
-    pub fn is_at_most_units(self, units: u16) -> bool
-        ensures { λ r. ⌜ r ≡ atMost self (ofUnits units) ⌝ }
-    {
-        (self.0 as u32) <= (Tenths::PER_UNIT as u32) * (units as u32)
+        UpperEnd((self.0 as u32) + (error as u32))
     }
 
     // Whole volts or amperes, rounded up.
@@ -71,6 +75,22 @@ impl Tenths {
     {
         let per_unit = Tenths::PER_UNIT as u32;
         (((self.0 as u32) + (per_unit - 1)) / per_unit) as u16
+    }
+}
+
+// What is judged of a reading: where the upper end passes, each value does that the reading stands for.
+impl UpperEnd {
+    pub fn is_at_most(self, most: Tenths) -> bool
+        ensures { λ r. ⌜ r ≡ atMost self most ⌝ }
+    {
+        self.0 <= (most.0 as u32)
+    }
+
+    // The limit is in whole volts or amperes. In tenths it may not fit two bytes.
+    pub fn is_at_most_units(self, units: u16) -> bool
+        ensures { λ r. ⌜ r ≡ atMost self (ofUnits units) ⌝ }
+    {
+        self.0 <= (Tenths::PER_UNIT as u32) * (units as u32)
     }
 }
 

@@ -1,4 +1,4 @@
--- Demands 2 and 3 of document 00 and the claims of requests 2026-01, 2026-05 and 2026-06, over every list of calls. Assumes nothing.
+-- Demands 2 and 3 of document 00 and the claims of requests 2026-01, 2026-05, 2026-06 and 2026-08, over every list of calls. Assumes nothing.
 use mathlib.Core.Bool.{Bool, true, false, cond}
 use mathlib.Core.List.{List, [], _∷_, _++_}
 use mathlib.Core.Path.{_≡_, refl, sym, ap, _∙_}
@@ -22,12 +22,14 @@ use Rattle.safety.specs.Demand3.{Demand3}
 use Rattle.safety.specs.Energy.{Energy}
 use Rattle.safety.specs.Offers.{Offers}
 use Rattle.safety.specs.Withdrawals.{Withdrawals}
+use Rattle.safety.specs.Ranges.{Ranges}
 use Rattle.safety.proofs.Agreement.{all-follow}
 use Rattle.safety.proofs.Numbers.{noOutcome, trace-never-6}
 use Rattle.safety.proofs.Outputs.{left, shown}
 use Rattle.safety.proofs.Energy.{energy-of}
 use Rattle.safety.proofs.Offers.{offers-of}
 use Rattle.safety.proofs.Withdrawals.{withdrawals-of}
+use Rattle.safety.proofs.Ranges.{ranges-of}
 use Rattle.safety.proofs.OverRules.{demand-3-of}
 
 -- Demand 2: "Over every list of calls, each lead's phase, reason, commands and frames, and all state bytes, equal those of document 01's
@@ -90,6 +92,10 @@ module _ (h : Head) (buffer : List ℕ) (accepted : setupOf h buffer .number ≡
   pub withdrawals : (calls : List Call) → Withdrawals h (ticksOf (setupOf h buffer .state) calls)
   withdrawals calls = rw state-is (withdrawals-of h (ticksOf (postBytes h (λ k. fresh)) calls) (left h calls sound) (shown h calls sound))
 
+  -- Request 2026-08: what each value that a reading stands for would have been answered
+  pub ranges : (calls : List Call) → Ranges h (ticksOf (setupOf h buffer .state) calls)
+  ranges calls = ranges-of h (ticksOf (setupOf h buffer .state) calls)
+
 -- what an accepted setup leaves of the post's state
 begins : (state : List ℕ) (h : Head) (buffer : List ℕ) → setupOf h buffer .number ≡ 0 → outcome state (setup h buffer) .state ≡ setupOf h buffer .state
 unfolding outcome
@@ -122,8 +128,8 @@ module _
           (rw (begins state h buffer accepted) (claimed h buffer accepted calls), rest)
       go false e rest = rest
 
--- Over any list of calls from any bytes: what every accepted setup begins satisfies demand 3 and the claims of requests 2026-01, 2026-05 and
--- 2026-06, up to the next one.
+-- Over any list of calls from any bytes: what every accepted setup begins satisfies demand 3 and the claims of requests 2026-01, 2026-05,
+-- 2026-06 and 2026-08, up to the next one.
 pub every-stretch : (state : List ℕ) (calls : List Call) → EachStretch Demand3 (stretchesOf state calls)
 every-stretch = each-stretch Demand3 demand-3
 
@@ -135,3 +141,6 @@ offers-every-stretch = each-stretch Offers offers
 
 pub withdrawals-every-stretch : (state : List ℕ) (calls : List Call) → EachStretch Withdrawals (stretchesOf state calls)
 withdrawals-every-stretch = each-stretch Withdrawals withdrawals
+
+pub ranges-every-stretch : (state : List ℕ) (calls : List Call) → EachStretch Ranges (stretchesOf state calls)
+ranges-every-stretch = each-stretch Ranges ranges

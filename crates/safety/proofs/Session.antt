@@ -1,17 +1,21 @@
 -- The sessions, computed: phase, reason and command of two leads; phase, command and count of one; what two leads want, get and are offered;
--- phase, reason and command of three leads that their cars end. Assumes nothing.
+-- phase, reason and command of three leads that their cars end, and of three with inexact meters. Assumes nothing.
 use mathlib.Core.Bool.{Bool, not}
 use mathlib.Core.List.{[], _∷_}
 use mathlib.Core.Path.{_≡_, refl}
 use Prim.Native.Nat.{ℕ}
-use lib.Dec.{T-not}
+use lib.Dec.{T-not, lit≤}
 use Rattle.common.proofs.Bools.{between-hi, upTo-at}
+use Rattle.readings.specs.Readings.{tenths}
+use Rattle.lead.specs.Names.{overvoltage, overcurrent}
 use Rattle.lead.specs.Questions.{gotNo}
+use Rattle.lead.specs.Claims.{Passes}
 use Rattle.post.specs.Rules.{inputAt}
 use Rattle.post.specs.All.{postRules}
 use Rattle.safety.specs.Lists.{outcome, ticksOf, stretchesOf}
-use Rattle.safety.specs.Demand3.{inputsAt, leadsBefore, Withdraws}
-use Rattle.safety.specs.Session.{session, twice, withdrawal, played, playedTwice, playedWithdrawal, withdrawalHead, withdrawalTicks, offersFrom}
+use Rattle.safety.specs.Demand3.{inputsAt, leadsBefore, Moves, Withdraws}
+use Rattle.safety.specs.Ranges.{heardAt, viewAt, VoltsMayBe, AmperesMayBe}
+use Rattle.safety.specs.Session.{session, twice, withdrawal, inexact, played, playedTwice, playedWithdrawal, playedInexact, withdrawalHead, withdrawalTicks, inexactHead, inexactTicks, offersFrom}
 
 pub session-shows :
     played
@@ -144,3 +148,59 @@ withdraws-there =
       opened = tt;
       said = tt;
     }
+
+pub inexact-shows :
+    playedInexact
+    ≡ ((
+    (1 ∷ 0 ∷ 0 ∷ 1 ∷ 0 ∷ 0 ∷ 1 ∷ 0 ∷ 0 ∷ [])
+    ∷ (2 ∷ 0 ∷ 0 ∷ 2 ∷ 0 ∷ 0 ∷ 2 ∷ 0 ∷ 0 ∷ [])
+    ∷ (3 ∷ 0 ∷ 0 ∷ 3 ∷ 0 ∷ 0 ∷ 3 ∷ 0 ∷ 0 ∷ [])
+    ∷ (4 ∷ 0 ∷ 0 ∷ 4 ∷ 0 ∷ 0 ∷ 4 ∷ 0 ∷ 0 ∷ [])
+    -- at 98 tenths of a volt, which may be 101, the first stays in 4; at 97 it goes on
+    ∷ (4 ∷ 0 ∷ 0 ∷ 5 ∷ 0 ∷ 0 ∷ 5 ∷ 0 ∷ 0 ∷ [])
+    ∷ (5 ∷ 0 ∷ 0 ∷ 6 ∷ 0 ∷ 2 ∷ 6 ∷ 0 ∷ 2 ∷ [])
+    -- at 497 and 141 tenths the first charges; at 498 tenths of a volt the second stops with 16, at 142 of an ampere the third with 17
+    ∷ (6 ∷ 0 ∷ 2 ∷ 9 ∷ 16 ∷ 0 ∷ 9 ∷ 17 ∷ 0 ∷ [])
+    ∷ (6 ∷ 0 ∷ 4 ∷ 10 ∷ 16 ∷ 0 ∷ 10 ∷ 17 ∷ 0 ∷ [])
+    -- stopped, the first stays in 7 at 46 tenths of an ampere, which may be 50, and goes on at 45
+    ∷ (7 ∷ 26 ∷ 0 ∷ 0 ∷ 16 ∷ 0 ∷ 0 ∷ 17 ∷ 0 ∷ [])
+    ∷ (7 ∷ 26 ∷ 0 ∷ 0 ∷ 16 ∷ 0 ∷ 0 ∷ 17 ∷ 0 ∷ [])
+    ∷ (8 ∷ 26 ∷ 0 ∷ 0 ∷ 16 ∷ 0 ∷ 0 ∷ 17 ∷ 0 ∷ [])
+    ∷ (9 ∷ 26 ∷ 0 ∷ 0 ∷ 16 ∷ 0 ∷ 0 ∷ 17 ∷ 0 ∷ [])
+    -- in 9 as in 4
+    ∷ (9 ∷ 26 ∷ 0 ∷ 0 ∷ 16 ∷ 0 ∷ 0 ∷ 17 ∷ 0 ∷ [])
+    ∷ (10 ∷ 26 ∷ 0 ∷ 0 ∷ 16 ∷ 0 ∷ 0 ∷ 17 ∷ 0 ∷ [])
+    ∷ [])
+    ∷ [])
+unfolding inexact outcome ticksOf stretchesOf postRules
+inexact-shows = refl
+
+-- the readings of its first lead, which stand for just the limit too
+module _ (t : ℕ) where
+  abbrev VoltsAt : ℕ → Type 0
+  VoltsAt x = VoltsMayBe inexactHead inexactTicks t 0 (tenths x)
+
+  abbrev AmperesAt : ℕ → Type 0
+  AmperesAt x = AmperesMayBe inexactHead inexactTicks t 0 (tenths x)
+
+  abbrev PassesAt : ℕ → Type 0
+  PassesAt n = Passes n (viewAt inexactHead inexactTicks t 0) (heardAt inexactHead inexactTicks t 0)
+
+  abbrev MovesAt : ℕ → ℕ → Type 0
+  MovesAt = Moves inexactHead inexactTicks t 0
+
+-- each of the five is passed there
+pub inexact-passes :
+    (VoltsAt 5 100 × MovesAt 5 4 5)
+    × (VoltsAt 6 500 × PassesAt 6 overvoltage)
+    × (AmperesAt 6 145 × PassesAt 6 overcurrent)
+    × (AmperesAt 10 49 × MovesAt 10 7 8)
+    × (VoltsAt 13 100 × MovesAt 13 9 10)
+unfolding inexact ticksOf postRules
+inexact-passes = (
+  (record { volts = tenths 97; amperes = tenths 0; reads = refl; stands = record { from = lit≤ tt; to = lit≤ tt } }, (refl, refl)),
+  (record { volts = tenths 497; amperes = tenths 141; reads = refl; stands = record { from = lit≤ tt; to = lit≤ tt } }, (tt, tt)),
+  (record { volts = tenths 497; amperes = tenths 141; reads = refl; stands = record { from = lit≤ tt; to = lit≤ tt } }, (tt, tt)),
+  (record { volts = tenths 0; amperes = tenths 45; reads = refl; stands = record { from = lit≤ tt; to = lit≤ tt } }, (refl, refl)),
+  (record { volts = tenths 97; amperes = tenths 0; reads = refl; stands = record { from = lit≤ tt; to = lit≤ tt } }, (refl, refl)),
+)

@@ -4,5 +4,6 @@ pub mod Demand3
 pub mod Energy
 pub mod Offers
 pub mod Withdrawals
+pub mod Ranges
 pub mod Starred
 pub mod Session

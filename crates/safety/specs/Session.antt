@@ -1,4 +1,4 @@
--- Lists of calls in which what demand 3 and requests 2026-01, 2026-05 and 2026-06 speak of happens: their claims are not empty.
+-- Lists of calls in which what demand 3 and requests 2026-01, 2026-05, 2026-06 and 2026-08 speak of happens: their claims are not empty.
 -- Definitions only.
 use mathlib.Core.List.{List, [], _∷_, _++_}
 use Prim.Native.Nat.{ℕ, zero, suc, _-_}
@@ -8,6 +8,7 @@ use Rattle.lead_records.specs.Inputs.{inputSize}
 use Rattle.post.specs.Heads.{stateLength, outputLength, statePart, outputPart, headFrom}
 use Rattle.post.specs.Calls.{setupOf}
 use Rattle.post.specs.declared.head.Head.{Head}
+use Rattle.setup_numbers.specs.declared.SetupErrors.{SetupErrors}
 use Rattle.safety.specs.Lists.{Call, setup, tick, Tick, ticksOf, Stretch, stretchesOf}
 use Rattle.safety.specs.Demand3.{commandAt, phaseAt}
 use Rattle.safety.specs.Offers.{offerAt, wantedAmperesAt}
@@ -39,10 +40,14 @@ closed = status 1
 abbrev revoked : List ℕ
 revoked = status 0
 
--- a lead's input: contacts, what is present, frames; volts 0 and amperes 0 where present, insulation resistance 8,192 ohms
+-- a lead's input: the bits of volts and amperes, contacts, what is present, frames; insulation resistance 8,192 ohms
+abbrev metered : ℕ → ℕ → ℕ → ℕ → ℕ → List ℕ → List ℕ
+metered volts amperes contacts present count frames =
+    filledUp inputSize ((contacts ∷ present ∷ count ∷ 0 ∷ []) ++ u32Bytes volts ++ u32Bytes amperes ++ (0 ∷ 0 ∷ 0 ∷ 0x46 ∷ []) ++ frames)
+
+-- volts 0 and amperes 0 where present
 abbrev leadInput : ℕ → ℕ → ℕ → List ℕ → List ℕ
-leadInput contacts present count frames =
-    filledUp inputSize ((contacts ∷ present ∷ count ∷ 0 ∷ []) ++ replicate 8 0 ++ (0 ∷ 0 ∷ 0 ∷ 0x46 ∷ []) ++ frames)
+leadInput = metered 0 0
 
 -- what a lead is given: nothing plugged in
 abbrev unplugged : List ℕ
@@ -91,9 +96,42 @@ waver = leadInput 5 3 2 (revoked ++ closed)
 abbrev revoke : List ℕ
 revoke = leadInput 7 3 1 revoked
 
--- a post with some leads, 500 V and 12 A
+-- 2026-08: with the lock closed, 9.625 or 9.75 V, which are 97 and 98 tenths
+abbrev at-97 : List ℕ
+at-97 = metered 0x411a_0000 0 7 3 0 []
+
+abbrev at-98 : List ℕ
+at-98 = metered 0x411c_0000 0 7 3 0 []
+
+-- the contactor closed, some volts and amperes
+abbrev charged : ℕ → ℕ → List ℕ
+charged volts amperes = metered volts amperes 7 3 1 closed
+
+-- 49.625 V and 14.0625 A, which are 497 and 141 tenths
+abbrev at-limits : List ℕ
+at-limits = charged 0x4246_8000 0x4161_0000
+
+-- 49.75 V, and 14.125 A: a tenth more
+abbrev over-volts : List ℕ
+over-volts = charged 0x4247_0000 0
+
+abbrev over-amperes : List ℕ
+over-amperes = charged 0 0x4162_0000
+
+-- 4.5 or 4.5625 A, which are 45 and 46 tenths
+abbrev at-45 : List ℕ
+at-45 = metered 0 0x4090_0000 7 3 0 []
+
+abbrev at-46 : List ℕ
+at-46 = metered 0 0x4092_0000 7 3 0 []
+
+-- a post with some leads, 500 V and 12 A, and meters that are off by so much
+abbrev headWith : ℕ → SetupErrors → Head
+headWith leads errors = headFrom (record { leads = leads; volts = 500; amperes = 12; resistance = 0; errors = errors })
+
+-- exact meters
 abbrev head : ℕ → Head
-head leads = headFrom (record { leads = leads; volts = 500; amperes = 12; resistance = 0 })
+head leads = headWith leads (record { volts = 0; amperes = 0 })
 
 -- a tick of two leads
 abbrev both : ℕ → List ℕ → List ℕ → Call
@@ -193,6 +231,29 @@ withdrawal =
     ∷ all start start start
     ∷ []
 
+-- 2026-08: three leads, a voltmeter that is 3 tenths off at most and an ammeter that is 4
+abbrev pub inexactHead : Head
+inexactHead = headWith 3 (record { volts = 3; amperes = 4 })
+
+unfoldable pub inexact : List Call
+inexact =
+    setup inexactHead (replicate (stateLength 3) 0)
+    ∷ all start start start
+    ∷ all handshake handshake handshake
+    ∷ all hold hold hold
+    ∷ all test test test
+    ∷ all at-98 at-97 at-97
+    ∷ all at-97 charge charge
+    ∷ all at-limits over-volts over-amperes
+    ∷ all at-limits unplugged unplugged
+    ∷ all stop unplugged unplugged
+    ∷ all at-46 unplugged unplugged
+    ∷ all at-45 unplugged unplugged
+    ∷ all release unplugged unplugged
+    ∷ all at-98 unplugged unplugged
+    ∷ all at-97 unplugged unplugged
+    ∷ []
+
 -- what is looked at in every tick of every stretch
 abbrev inTicks : (Tick → List ℕ) → List Tick → List (List ℕ)
 inTicks look [] = []
@@ -227,20 +288,27 @@ playedTwice = inStretches counted (stretchesOf [] twice)
 abbrev pub playedWithdrawal : List (List (List ℕ))
 playedWithdrawal = inStretches shownOfThree (stretchesOf [] withdrawal)
 
+abbrev pub playedInexact : List (List (List ℕ))
+playedInexact = inStretches shownOfThree (stretchesOf [] inexact)
+
 -- the ticks of a list from the setup that it begins with up to the next one
-abbrev ticksBehind : ℕ → List Call → List Tick
-ticksBehind leads calls = ticksOf (setupOf (head leads) (replicate (stateLength leads) 0) .state) (drop 1 calls)
+abbrev ticksBehind : Head → List Call → List Tick
+ticksBehind h calls = ticksOf (setupOf h (replicate (stateLength (h .leads)) 0) .state) (drop 1 calls)
 
 -- 2026-06: what `withdrawal` sets up, and its ticks
 abbrev pub withdrawalHead : Head
 withdrawalHead = head 3
 
 abbrev pub withdrawalTicks : List Tick
-withdrawalTicks = ticksBehind 3 withdrawal
+withdrawalTicks = ticksBehind withdrawalHead withdrawal
+
+-- 2026-08: the ticks of `inexact`
+abbrev pub inexactTicks : List Tick
+inexactTicks = ticksBehind inexactHead inexact
 
 -- 2026-05: the ticks of `session`
 abbrev sessionTicks : List Tick
-sessionTicks = ticksBehind 2 session
+sessionTicks = ticksBehind (head 2) session
 
 -- a lead's phase, the amperes that it wants, its command and the amperes that H'108 offers, in tick t
 abbrev offeredTo : ℕ → ℕ → List ℕ

@@ -8,7 +8,7 @@ use lib.IntN.{pos, negsuc}
 use lib.ListN.{length, replicate}
 use Rattle.common.specs.Tests.{same}
 use Rattle.readings.specs.Value.{number}
-use Rattle.readings.specs.Readings.{ofUnits, judgedOf}
+use Rattle.readings.specs.Readings.{ofUnits, judgedOf, exactMeters}
 use Rattle.readings.specs.declared.Judged.the-variants.{Good}
 use Rattle.readings.specs.declared.Reading.the-variants.{Value}
 use Rattle.frames.specs.Times.{timeOf, chargingTicks}
@@ -41,11 +41,11 @@ minusZero = fin true 0 (pos 0)
 
 -- tenths of a volt at the connector, from volts, amperes and the bits of the cable resistance
 abbrev connector : Float → Float → ℕ → ℕ
-connector volts amperes resistance = meterOf (judgedOf (Value volts) (Value amperes) resistance) .volts .0
+connector volts amperes resistance = meterOf exactMeters (judgedOf (Value volts) (Value amperes) resistance) .volts .0
 
 -- a post's ratings
 abbrev ratings : Ratings
-ratings = record { volts = 500; amperes = 200; resistance = 0 }
+ratings = record { volts = 500; amperes = 200; resistance = 0; errors = exactMeters }
 
 -- a lead at 400 V whose car asks for some amperes, for 600 ticks
 abbrev leadAt : ℕ → ℕ → ℕ → Lead
@@ -99,7 +99,10 @@ stopInput = (0xa0 ∷ 0x86 ∷ 1 ∷ 0 ∷ []) ++ (0x17 ∷ 3 ∷ 0 ∷ 0 ∷ []
 -- the command after some ticks with the stop button pressed, from 125 A on
 abbrev stopping : ℕ → ℕ → Lead
 stopping zero = λ k. leadAt charging 125 125
-stopping (suc t) = leadAfter (headFrom (record { leads = 1; volts = 500; amperes = 125; resistance = 0 })) (tickInput stopInput) (stopping t)
+stopping (suc t) =
+    leadAfter
+    (headFrom (record { leads = 1; volts = 500; amperes = 125; resistance = 0; errors = record { volts = 0; amperes = 0 } }))
+    (tickInput stopInput) (stopping t)
 
 unfoldable pub cases : List Case
 cases =

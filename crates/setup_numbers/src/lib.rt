@@ -7,4 +7,11 @@ pub struct SetupNumbers {
     pub volts: u32,
     pub amperes: u32,
     pub resistance: u32,
+    pub errors: SetupErrors,
+}
+
+// The meters' errors, in tenths of a volt and of an ampere (2026-08).
+pub struct SetupErrors {
+    pub volts: u32,
+    pub amperes: u32,
 }

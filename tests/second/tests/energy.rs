@@ -103,7 +103,7 @@ fn a_charge_and_the_next_one() {
         assert_eq!(step(&mut state, allowance, input), expected, "row {row}");
     }
     // Setup throws it away.
-    assert_eq!(setup(1, 500, 125, 0, &mut state), DONE);
+    assert_eq!(setup(1, 500, 125, 0, 0, 0, &mut state), DONE);
     assert_eq!(count(&state, 0), 0);
 }
 
@@ -154,7 +154,7 @@ fn lowest_byte_first() {
 fn setup_writes_zeros() {
     for leads in 1..=4 {
         let mut state = vec![0xFF; state_bytes(leads)];
-        assert_eq!(setup(leads as u32, 500, 125, 0, &mut state), DONE);
+        assert_eq!(setup(leads as u32, 500, 125, 0, 0, 0, &mut state), DONE);
         (0..leads).for_each(|lead| assert_eq!(state[HEAD_BYTES + STATE_BYTES * lead..][20..28], [0; 8]));
     }
 }

@@ -1,6 +1,6 @@
 use super::*;
 use crate::bench::run;
-use crate::lead::{Input, Lead, Rating};
+use crate::lead::{Input, Lead};
 
 /// Phase, command and the amperes offered.
 type Shown = (u8, u8, u8);
@@ -243,7 +243,7 @@ fn printed_by_the_bench() {
     let bytes = [&12_000u32.to_le_bytes()[..], &input.0[..]].concat();
     let line = format!("tick\t{}\n", bytes.iter().map(|byte| format!("{byte:02x}")).collect::<String>());
     let mut printed = Vec::new();
-    run(format!("setup\t1\t500\t125\t00000000\n{}", line.repeat(6)).as_bytes(), &mut printed).unwrap();
+    run(format!("setup\t1\t500\t125\t00000000\t0\t0\n{}", line.repeat(6)).as_bytes(), &mut printed).unwrap();
     let printed = String::from_utf8(printed).unwrap();
     let last: Vec<&str> = printed.lines().skip(5).collect();
     assert_eq!(last, [
@@ -259,12 +259,11 @@ fn without_a_threshold() {
     state[HEAD_BYTES..].copy_from_slice(&Case::new(6).number(THRESHOLD, 0).state);
     assert_eq!(tick(&mut state, &[0; input_bytes(1)], &mut [0; output_bytes(1)]), 6);
     // A lead put together past that check commands 0 and offers 0.
-    let rating = Rating { volts: 500, amperes: 125, cable_resistance: 0.0 };
     for level in [0, 1, 12_000, AMPLE] {
         let mut lead = Lead { phase: 6, command: 20, ..Lead::FRESH };
         let mut output = [0xEE; OUTPUT_BYTES];
-        lead.take(level, &rating);
-        lead.output(&Input::NOTHING, level, &rating, &mut output);
+        lead.take(level, &RATING);
+        lead.output(&Input::NOTHING, level, &RATING, &mut output);
         assert_eq!(shown(&output), (6, 0, 0));
     }
 }

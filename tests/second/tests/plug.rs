@@ -345,7 +345,7 @@ fn the_bit_in_the_contacts_of_a_tick() {
 fn the_bench_knows_nothing_of_it() {
     for line in ["plug", "plug\t4000", "sense\t4000", "sense\t0\t4000", "plug_sense\t00\t4000\t00", "plug-sense\t4000"] {
         let mut answer = Vec::new();
-        run(format!("setup\t1\t500\t125\t00000000\n{line}\n").as_bytes(), &mut answer).unwrap();
+        run(format!("setup\t1\t500\t125\t00000000\t0\t0\n{line}\n").as_bytes(), &mut answer).unwrap();
         assert_eq!(answer, b"0\n?\n", "{line:?}");
     }
 }

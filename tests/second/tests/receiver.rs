@@ -677,7 +677,7 @@ fn a_drained_frame_in_the_input_of_a_tick() {
 fn the_bench_knows_nothing_of_it() {
     for line in ["power_up", "power-up", "read\t0", "write\t2\t255", "arrive\t0201080000000000000000", "drain", "line"] {
         let mut answer = Vec::new();
-        run(format!("setup\t1\t500\t125\t00000000\n{line}\n").as_bytes(), &mut answer).unwrap();
+        run(format!("setup\t1\t500\t125\t00000000\t0\t0\n{line}\n").as_bytes(), &mut answer).unwrap();
         assert_eq!(answer, b"0\n?\n", "{line:?}");
     }
 }

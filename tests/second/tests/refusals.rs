@@ -3,10 +3,11 @@ use crate::post::{SETUP_REFUSALS, TICK_REFUSALS};
 
 const FILL: u8 = 0xA5;
 
-/// Setup into `length` bytes that hold something already. A refusal leaves them alone.
-fn setup_of(leads: u32, volts: u32, amperes: u32, resistance: u32, length: usize) -> u32 {
+/// Setup into `length` bytes that hold something already, with one error for both meters. A refusal
+/// leaves them alone.
+fn setup_of(leads: u32, volts: u32, amperes: u32, resistance: u32, error: u32, length: usize) -> u32 {
     let mut state = vec![FILL; length];
-    let number = setup(leads, volts, amperes, resistance, &mut state);
+    let number = setup(leads, volts, amperes, resistance, error, error, &mut state);
     assert!(number == DONE || state == vec![FILL; length]);
     number
 }
@@ -24,36 +25,39 @@ fn setup_refuses() {
     let half = 0.5f32.to_bits();
     // The first no counts: all that is asked about later is wrong as well.
     for leads in [0, 5, 256, 257, u32::MAX] {
-        assert_eq!(setup_of(leads, 0, 0, !0, 0), 1);
-        assert_eq!(setup_of(leads, 500, 125, half, state_bytes(leads as usize % 256)), 1);
+        assert_eq!(setup_of(leads, 0, 0, !0, !0, 0), 1);
+        assert_eq!(setup_of(leads, 500, 125, half, 0, state_bytes(leads as usize % 256)), 1);
     }
     for volts in [0, 49, 501, 65_535, 65_536 + 400, u32::MAX] {
-        assert_eq!(setup_of(1, volts, 0, !0, 0), 2);
+        assert_eq!(setup_of(1, volts, 0, !0, !0, 0), 2);
     }
     for amperes in [0, 201, 256, 256 + 125, u32::MAX] {
-        assert_eq!(setup_of(1, 500, amperes, !0, 0), 3);
+        assert_eq!(setup_of(1, 500, amperes, !0, !0, 0), 3);
     }
     for ohms in [1.0f32.next_up(), -f32::from_bits(1), -0.5, f32::NAN, -f32::NAN, f32::INFINITY, f32::NEG_INFINITY] {
-        assert_eq!(setup_of(1, 500, 125, ohms.to_bits(), 0), 4);
+        assert_eq!(setup_of(1, 500, 125, ohms.to_bits(), !0, 0), 4);
+    }
+    for error in [51, 256, 65_536, u32::MAX] {
+        assert_eq!(setup_of(1, 500, 125, half, error, 0), 32);
     }
     for leads in 1..=4 {
         let right = state_bytes(leads as usize);
         for length in [0, 1, HEAD_BYTES, right - 1, right + 1, right + STATE_BYTES] {
-            assert_eq!(setup_of(leads, 500, 125, half, length), 5);
+            assert_eq!(setup_of(leads, 500, 125, half, 0, length), 5);
         }
         for (volts, amperes, ohms) in [(50, 1, 0.0f32), (500, 200, 1.0), (499, 2, -0.0)] {
-            assert_eq!(setup_of(leads, volts, amperes, ohms.to_bits(), right), DONE);
+            assert_eq!(setup_of(leads, volts, amperes, ohms.to_bits(), 0, right), DONE);
         }
     }
-    assert_eq!((SETUP_REFUSALS, TICK_REFUSALS), ([1, 2, 3, 4, 5], [6, 7, 8, 9]));
+    assert_eq!((SETUP_REFUSALS, TICK_REFUSALS), ([1, 2, 3, 4, 32, 5], [6, 7, 8, 9]));
 }
 
 #[test]
 fn a_fresh_state() {
     let mut state = [FILL; state_bytes(2)];
     // Minus zero is kept bit for bit.
-    assert_eq!(setup(2, 300, 125, 0x8000_0000, &mut state), DONE);
-    assert_eq!(state[..HEAD_BYTES], [2, 125, 0x2C, 0x01, 0, 0, 0, 0x80]);
+    assert_eq!(setup(2, 300, 125, 0x8000_0000, 0, 0, &mut state), DONE);
+    assert_eq!(state[..HEAD_BYTES], [2, 125, 0x2C, 0x01, 0, 0, 0, 0x80, 0, 0]);
     assert_eq!(state[HEAD_BYTES..], [0; 2 * STATE_BYTES]);
 }
 
@@ -75,6 +79,7 @@ fn a_bad_head_or_length_of_the_state() {
             (2, &500u16.to_le_bytes(), DONE), (2, &501u16.to_le_bytes(), 6),
             (4, &f32::NAN.to_le_bytes(), 6), (4, &1.5f32.to_le_bytes(), 6),
             (4, &(-0.0f32).to_le_bytes(), DONE), (4, &(-f32::from_bits(1)).to_le_bytes(), 6),
+            (8, &[50], DONE), (8, &[51], 6), (9, &[50], DONE), (9, &[51], 6), (8, &[50, 50], DONE), (8, &[51, 51], 6),
         ] {
             let mut state = good.clone();
             state[at..at + bytes.len()].copy_from_slice(bytes);

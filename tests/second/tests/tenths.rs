@@ -1,14 +1,5 @@
 use super::*;
 use crate::lead::{AMPERES_OVER_RATED_IN_TENTHS, SAFE_AMPERES_IN_TENTHS, SAFE_VOLTS_IN_TENTHS};
-use crate::readings::Tenths;
-
-/// Phase and reason, in a post of so many rated amperes.
-fn of_rated(rated: u8, case: Case) -> (u8, u8) {
-    let mut state = fresh(1, 500, rated.into());
-    state[HEAD_BYTES..].copy_from_slice(&case.state);
-    let [phase, reason, ..] = done(&mut state, AMPLE, &[case.input])[0];
-    (phase, reason)
-}
 
 #[test]
 fn limits_have_the_documents_numbers() {
@@ -41,15 +32,15 @@ fn question_16_at_every_threshold() {
 fn question_17_at_every_rating() {
     for rated in 1..=200 {
         // Rated + 2.5 is a float, the last that passes.
-        let at = f32::from(rated) + 2.5;
+        let at = rated as f32 + 2.5;
         for (phase, reason) in [(5, 17), (6, 17), (7, 0)] {
             // A command holds the lead in phase 7 at any amperes.
-            let case = Case::new(phase).byte(COMMAND, u8::from(phase > 5));
+            let case = Case::new(phase).byte(COMMAND, u8::from(phase > 5)).rated(rated);
             for amperes in [at, at.next_down(), at - 0.1, at - 2.5, 0.0] {
-                assert_eq!(of_rated(rated, case.amperes(amperes)), (phase, 0), "{amperes} A");
+                assert_eq!(case.amperes(amperes).tick().phase_and_reason(), (phase, 0), "{amperes} A");
             }
             for amperes in [at.next_up(), at + 0.05, at + 0.5, at + 2.5, 400.0] {
-                assert_eq!(of_rated(rated, case.amperes(amperes)), (9, reason), "{amperes} A");
+                assert_eq!(case.amperes(amperes).tick().phase_and_reason(), (9, reason), "{amperes} A");
             }
         }
     }

@@ -3,12 +3,10 @@ use crate::bench::run;
 use crate::frames::{self, CAR_STATUS, NOT_IN_PARK, STOP_REQUEST, SYSTEM_FAULT};
 use crate::inputs::car_status;
 use crate::lead::switch::{FRAMES, LOCK};
-use crate::lead::{reason_of_no, Decision, Input, Lead, Rating, QUESTIONS};
+use crate::lead::{reason_of_no, Decision, Input, Lead, QUESTIONS};
 
 /// A status byte with enabled clear.
 const WITHDRAWS: u8 = 0;
-
-const RATING: Rating = Rating { volts: 500, amperes: 125, cable_resistance: 0.0 };
 
 /// Permission opens in the tick whose H'102 has this status byte.
 fn opens(phase: u8, status: u8) -> Case {
@@ -320,7 +318,7 @@ fn printed_by_the_bench() {
         (clear(ready()), "0\t0717000F0000000001F4017D900100000205000000250000"),
     ] {
         let mut printed = Vec::new();
-        run(format!("setup\t1\t500\t125\t00000000\n{start}{}", line(last)).as_bytes(), &mut printed).unwrap();
+        run(format!("setup\t1\t500\t125\t00000000\t0\t0\n{start}{}", line(last)).as_bytes(), &mut printed).unwrap();
         assert_eq!(String::from_utf8(printed).unwrap().lines().last(), Some(expected));
     }
 }

@@ -16,7 +16,14 @@ use Rattle.post.proofs.setup.Tie as tie
 head : tie.Start → Head
 head c =
     let a = c .args in
-    headFrom (record { leads = a .leads; volts = a .rated-volts; amperes = a .rated-amperes; resistance = a .resistance })
+    headFrom
+    (record {
+      leads = a .leads;
+      volts = a .rated-volts;
+      amperes = a .rated-amperes;
+      resistance = a .resistance;
+      errors = record { volts = a .volts-error; amperes = a .amperes-error };
+    })
 
 from-numbers-requires : tie.Need-from-numbers-requires
 unfolding head

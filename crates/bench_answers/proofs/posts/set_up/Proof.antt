@@ -21,7 +21,7 @@ returns c =
     let l = k .state-length in
     let few = k .before .leads-of .ensures in
     let a = k .before .before .before .args in
-    setup-front (now (a .state)) (c .before .before .setup .last .1 .1 .1 .1 .0) (l .ensures ∙ ap stateLength few)
+    setup-front (now (a .state)) (c .before .before .setup .last .1 .1 .1 .1 .1 .1 .0) (l .ensures ∙ ap stateLength few)
     (omega (arith, l .ensures, few))
     (c .before .state .given .0)
     (headFrom (a .numbers))

@@ -2,6 +2,7 @@
 use borrow.Author.Needs.{needs}
 use mathlib.Core.Path.{refl, sym, _∙_}
 use denote.Ref.{now}
+use Rattle.bench_line.specs.Digits.{decimalOf}
 use Rattle.bench_line.specs.Lines.{afterVolts}
 use Rattle.bench_line.specs.declared.fields.Field.the-variants as field
 use Rattle.bench_line.proofs.Rests.{Behind, behind}
@@ -12,16 +13,16 @@ returns : tie.Need-returns
 returns c =
     let k = c .before .before in
     let a = k .before .before .args in
-    behind (now (a .fields)) field.Not (sym (k .number-field .ensures) ∙ c .enum-told .given .1) (afterVolts (a .leads)) (λ v. refl)
+    behind decimalOf (now (a .fields)) field.Not (sym (k .decimal-field .ensures) ∙ c .enum-told .given .1) (afterVolts (a .leads)) (λ v. refl)
 
 -- the field that is there
 found :
     (c : tie.After-known-told)
-    → Behind (now (c .before .before .before .before .before .args .fields))
+    → Behind decimalOf (now (c .before .before .before .before .before .args .fields))
     (field.At (c .before .value .given .0 .0) (c .before .value .given .0 .1 .0))
 found c =
     let k = c .before .before .before in
-    behind (now (k .before .before .args .fields)) _ (sym (k .number-field .ensures) ∙ c .before .value .given .1)
+    behind decimalOf (now (k .before .before .args .fields)) _ (sym (k .decimal-field .ensures) ∙ c .before .value .given .1)
 
 returns-2 : tie.Need-returns-2
 returns-2 c =

@@ -3,11 +3,12 @@ use borrow.Author.Needs.{needs}
 use Prim.Native.Nat.{_-_}
 use mathlib.Core.Path.{_≡_}
 use lib.ListN.{length}
+use Rattle.post.specs.Heads.{stateLength}
 use Rattle.cases.proofs.sessions.stopped.Statement.{statement}
 use Rattle.cases.proofs.sessions.stopped.Tie as tie
 
 abbrev Inv-loop : tie.InvT-loop
-Inv-loop state₀ at₀ state at = length state ≡ 72
+Inv-loop state₀ at₀ state at = length state ≡ stateLength 2
 
 abbrev μ-loop : tie.MeasureT-loop
 μ-loop state₀ at₀ state at = 4 - at

@@ -36,11 +36,25 @@ returns-4 c =
       said-yes (j .before .is-between .ensures) (j .if1 .left),
       said-yes (k .before .is-between2 .ensures) (k .if2 .left),
       said-yes (l .before .is-between3 .ensures) (l .if3 .left),
-      ← c .before .is-allowed-resistance .ensures,
+      said-no (c .before .is-allowed-resistance .ensures) (c .if4 .taken),
+    )
+
+returns-5 : tie.Need-returns-5
+unfolding headRows
+returns-5 c =
+    let m = c .before .before .before in
+    let l = m .before .before in
+    let k = l .before .before in
+    let j = k .before .before in
+    rw (
+      said-yes (j .before .is-between .ensures) (j .if1 .left),
+      said-yes (k .before .is-between2 .ensures) (k .if2 .left),
+      said-yes (l .before .is-between3 .ensures) (l .if3 .left),
+      said-yes (m .before .is-allowed-resistance .ensures) (m .if4 .left),
     )
     (c .unless .ensures)
 
 pub head-refusal-spec : {M : Type 1} → statement M
 head-refusal-spec =
     tie.close
-    (tie.spec (search needs) returns (search needs) returns-2 (search needs) returns-3 (search needs) (search needs) returns-4)
+    (tie.spec (search needs) returns (search needs) returns-2 (search needs) returns-3 (search needs) returns-4 (search needs) returns-5)

@@ -4,7 +4,7 @@ use Rattle.lead.proofs.questions.Meter.from_reading.Statement.{statemen
 use Rattle.lead.proofs.questions.Meter.from_reading.Tie as tie
 
 returns : tie.Need-returns
-returns c = rw (c .before .reading .given .1)
+returns c = rw (c .before .before .before .reading .given .1, c .upper-end2 .ensures, c .before .upper-end .ensures)
 
 returns-2 : tie.Need-returns-2
 returns-2 c = rw (c .enum-told .given .1)
@@ -12,4 +12,4 @@ returns-2 c = rw (c .enum-told .given .1)
 pub from-reading-spec : {M : Type 1} → statement M
 from-reading-spec =
     tie.close
-    (tie.spec (search needs) (search needs) returns returns-2)
+    (tie.spec (search needs) (search needs) (search needs) (search needs) returns returns-2)

@@ -18,5 +18,11 @@ cast-t3 c = omega (arith, taken (c .before .before) .volts-most)
 cast-t4 : tie.Need-cast-t4
 cast-t4 c = omega (arith, taken (c .before .before .before) .amperes-most)
 
+cast-t5 : tie.Need-cast-t5
+cast-t5 c = omega (arith, taken (c .before .before .before .before) .volts-error-most)
+
+cast-t6 : tie.Need-cast-t6
+cast-t6 c = omega (arith, taken (c .before .before .before .before .before) .amperes-error-most)
+
 pub from-numbers-spec : {M : Type 1} → statement M
-from-numbers-spec = tie.close (tie.spec cast-t2 cast-t3 cast-t4 (search needs))
+from-numbers-spec = tie.close (tie.spec cast-t2 cast-t3 cast-t4 cast-t5 cast-t6 (search needs))

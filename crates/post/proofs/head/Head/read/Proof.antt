@@ -6,9 +6,11 @@ use Rattle.post.proofs.head.Head.read.Tie as tie
 
 returns : tie.Need-returns
 unfolding headOf
-returns c = rw (c .u32-at .ensures, c .before .before .u16-at .ensures)
+returns c =
+    let k = c .before .before in
+    rw (k .u32-at .ensures, k .before .before .u16-at .ensures)
 
 pub read-spec : {M : Type 1} → statement M
 read-spec =
     tie.close
-    (tie.spec (search needs) (search needs) (search needs) (search needs) returns)
+    (tie.spec (search needs) (search needs) (search needs) (search needs) (search needs) (search needs) returns)
