@@ -58,7 +58,7 @@ pub record ValueRange : Type 0 where
 abbrev pub lowerEnd : ValueRange → Tenths
 lowerEnd range = tenths (range .tenths .0 - range .error)
 
--- It is not cut off: it may be above the 1000 V and 400 A that a good reading is asked for.
+-- It is not cut off: it may be above 1000 V or 400 A, up to which a reading is good.
 abbrev pub upperEnd : ValueRange → UpperEnd
 upperEnd range = record { 0 = range .tenths .0 + range .error }
 
