@@ -1,6 +1,8 @@
 // The bench program: reads lines from standard input to its end, and writes an answer to each. Document 01, 'Bench program'. It holds one
 // piece of input, one line, one piece of answers and the post's state, however long the input is. What is answered is `bench_answers`'s
 // doing; here is reading and writing.
+#![tactic(auto)]
+
 ghost use Rattle.std.specs.Prelude.{◌≡◌, length};
 ghost use Rattle.bench.specs.Rooms.{piece_room, text_room, InBuffers};
 ghost use Rattle.bench_answers.specs.Progress.{HaveRoom};

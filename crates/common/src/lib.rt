@@ -1,5 +1,7 @@
 // What several crates use and no paper speaks of: tests on numbers, records of one size in a list of bytes, what a call asks before it
 // does anything, and digits and fields of a text. Most of it is rules and laws. Rests on nothing.
+#![tactic(auto)]
+
 ghost use Rattle.std.specs.Prelude.{◌≡◌, [], ◌∷◌};
 ghost use Rattle.common.specs.Tests.{between};
 ghost use Rattle.common.specs.Refusals.{asks, refusal_of};

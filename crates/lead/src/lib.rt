@@ -1,5 +1,7 @@
 // One lead: its conversation with the car, tick by tick, the amperes that it wants, and the energy that it counts. By value: bytes stand in lead_records.
 // Rests on readings, frames and common, and knows nothing of other leads.
+#![tactic(auto)]
+
 mod figures;
 mod good;
 mod hearing;

@@ -1,4 +1,6 @@
 // One lead's bytes: its state (32), its input (104) and its output (24). Rests on lead, frames, readings, little_endian, common and bytes.
+#![tactic(auto)]
+
 mod inputs;
 mod outputs;
 mod states;

@@ -1,5 +1,7 @@
 // Numbers of two, four and eight bytes, and flags in a byte. Document 01: "many-byte numbers are little-endian", "bits from 0 as
 // the lowest". Rests on nothing.
+#![tactic(auto)]
+
 ghost use Rattle.std.specs.Prelude.{◌≡◌, ◌+◌, ◌*◌, ◌≤◌, ◌<◌, length};
 ghost use Rattle.little_endian.specs.Numbers.{u16_at, u32_at, u64_at, low_byte, high_byte, low_half, high_half, low_word, high_word, u32_bytes, u64_bytes};
 ghost use Rattle.little_endian.specs.Flags.{flag_of};

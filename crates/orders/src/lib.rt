@@ -1,5 +1,7 @@
 // Allowance orders of the site's energy desk: their text, the 1,024 bytes in which the host lends them to a tick, and the watts that a tick
 // uses. Document 02, 2026-09. It knows nothing of leads. Rests on the promises of `common`, `little_endian` and `bytes`.
+#![tactic(auto)]
+
 mod allowances;
 mod lines;
 mod numbers;

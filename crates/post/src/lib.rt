@@ -1,5 +1,7 @@
 // The post: one to four leads, and the two calls of the C host. Document 01, 'The post's two calls'.
 // Rests on the promises of `lead`, `lead_records`, `sharing`, `readings`, `setup_numbers`, `little_endian`, `common` and `bytes`.
+#![tactic(auto)]
+
 mod fresh;
 mod head;
 mod lengths;

@@ -1,6 +1,8 @@
 // The meter board's readings: document 01, 'Readings', as requests 2026-04 and 2026-08 amend it, and question 27. Rests on little_endian and
 // common.
 // Floats end here: the layers above see tenths, and hold a float only inside a Reading.
+#![tactic(auto)]
+
 mod floats;
 
 ghost use Rattle.std.specs.Prelude.{◌≡◌, true, length};

@@ -1,5 +1,7 @@
 // The receive chip of the new board: registers as bytes, eight mailboxes used in turn, and the calls of the C host. Document 02, 2026-02.
 // It knows frames as 11 bytes. Rests on the promises of `bytes`, `little_endian` and `common`.
+#![tactic(auto)]
+
 mod chip;
 mod names;
 mod places;

@@ -1,5 +1,6 @@
 // The numbers that setup is given, as one struct from the bench program's line to the questions of the post's head. Below both, so that the
 // language of the bench knows nothing of the post.
+#![tactic(auto)]
 
 // None of them is cut off. The resistance is the cable's, as its float's bits.
 #[derive(Drop)]

@@ -1,5 +1,7 @@
 // Sharing a power limit out: document 01, 'Dividing the allowance', in the way that request 2026-03 asks for. Wants and the limit are in
 // watts. Rests on common.
+#![tactic(auto)]
+
 ghost use Rattle.std.specs.Prelude.{List, ◌≡◌, ℕ, ◌+◌, ◌<◌, min, max};
 ghost use Rattle.sharing.specs.Level.{places, want_of, level_of};
 ghost use Rattle.sharing.specs.Way.{in_order, carried_after, step_of, way, level_found};

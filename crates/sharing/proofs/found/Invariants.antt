@@ -1,0 +1,24 @@
+-- `sharing::found` meets its contract. The loop's invariant: the way from this place on, with the watts carried, comes to the level that the
+-- whole way comes to; and these watts are the limit less the wants of the places before, which is the request's sentence, and more than the
+-- contract asks for. Assumes nothing.
+use borrow.Author.Rules.{rules}
+use mathlib.Core.Logic.{⊎_elim}
+use mathlib.Core.Path.{◌≡◌, refl, sym, ap, ◌∙◌}
+use Prim.Native.Nat.{◌-◌, ◌≤◌}
+use native.Mathlib.Omega.{arith}
+use lib.ListN.{length, drop, drop_of_length-le}
+use Rattle.sharing.specs.Level.{places, want_of}
+use Rattle.sharing.specs.Way.{carried_after, way, level_found}
+use Rattle.sharing.specs.declared.Step.TheVariants.{Met}
+use Rattle.sharing.proofs.Steps.{carried_less, found_passes, found_meets, found_ends}
+use Rattle.sharing.proofs.found.Given as goal
+
+abbrev pub invariant-loop-place : goal.invariant-loop-place
+invariant-loop-place l =
+    (l.place ≤ places)
+    × (level_found (way l.order l.limit) l.limit ≡ level_found (way (drop l.place l.order) l.carried) l.limit)
+    × (l.carried ≡ carried_after l.place l.order l.limit)
+
+abbrev pub decreases-loop-place : goal.decreases-loop-place
+decreases-loop-place l =
+    places - l.place
