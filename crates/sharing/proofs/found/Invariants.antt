@@ -1,16 +1,11 @@
 -- `sharing::found` meets its contract. The loop's invariant: the way from this place on, with the watts carried, comes to the level that the
 -- whole way comes to; and these watts are the limit less the wants of the places before, which is the request's sentence, and more than the
 -- contract asks for. Assumes nothing.
-use borrow.Author.Rules.{rules}
-use mathlib.Core.Logic.{⊎_elim}
-use mathlib.Core.Path.{◌≡◌, refl, sym, ap, ◌∙◌}
+use mathlib.Core.Path.{◌≡◌}
 use Prim.Native.Nat.{◌-◌, ◌≤◌}
-use native.Mathlib.Omega.{arith}
-use lib.ListN.{length, drop, drop_of_length-le}
-use Rattle.sharing.specs.Level.{places, want_of}
+use lib.ListN.{drop}
+use Rattle.sharing.specs.Level.{places}
 use Rattle.sharing.specs.Way.{carried_after, way, level_found}
-use Rattle.sharing.specs.declared.Step.TheVariants.{Met}
-use Rattle.sharing.proofs.Steps.{carried_less, found_passes, found_meets, found_ends}
 use Rattle.sharing.proofs.found.Given as goal
 
 abbrev pub invariant-loop-place : goal.invariant-loop-place

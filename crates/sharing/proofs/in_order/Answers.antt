@@ -1,5 +1,4 @@
 -- `sharing::in_order` meets its contract: what the pairs come to is the order of four (`four_in_order`). Assumes nothing.
-use borrow.Author.Rules.{rules}
 use mathlib.Core.Path.{sym, ap, ◌∙◌}
 use Rattle.sharing.specs.Level.{want_of}
 use Rattle.sharing.specs.Way.{in_order}

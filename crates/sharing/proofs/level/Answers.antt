@@ -1,5 +1,4 @@
 -- `sharing::level` meets its contract: the way over the wants in order comes to their level. Assumes nothing.
-use borrow.Author.Rules.{rules}
 use mathlib.Core.Path.{◌≡◌, ◌∙◌}
 use lib.ListN.{length}
 use Rattle.sharing.specs.Level.{places}

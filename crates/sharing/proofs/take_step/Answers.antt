@@ -1,7 +1,5 @@
 -- `sharing::take_step` meets its contract. Assumes nothing.
-use borrow.Author.Rules.{rules}
 use mathlib.Core.Path.{sym}
-use native.Mathlib.Nat.{div-le_self}
 use native.Mathlib.Omega.{arith}
 use Rattle.sharing.proofs.Way.{last_not_met}
 use Rattle.sharing.proofs.Steps.{step_meets, step_ends, carried_less}
