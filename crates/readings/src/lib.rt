@@ -13,14 +13,14 @@ ghost use Rattle.readings.specs.Readings.{reading_of, connector_volts, in_range,
 use floats::{float_of, is_within, least_tenth};
 
 // One value of the meter board.
-#[derive(Drop)]
+#[derive(Clone, Copy)]
 pub enum Reading {
     Value(f32),
     Missing,
 }
 
 // What the correction takes: the resistance is the cable's.
-#[derive(Drop)]
+#[derive(Clone, Copy)]
 struct Measurement {
     volts: f32,
     amperes: f32,
@@ -28,25 +28,25 @@ struct Measurement {
 }
 
 // Tenths of a volt or an ampere (2026-04). Whole volts and amperes are plain numbers.
-#[derive(Drop)]
+#[derive(Clone, Copy)]
 pub struct Tenths(pub u16);
 
 // A good reading has the volts at the connector and the amperes.
-#[derive(Drop)]
+#[derive(Clone, Copy)]
 pub enum Judged {
     Good { volts: Tenths, amperes: Tenths },
     Bad,
 }
 
 // How far off each meter may be, in tenths (2026-08).
-#[derive(Drop)]
+#[derive(Clone, Copy)]
 pub struct MeterErrors {
     pub volts: u8,
     pub amperes: u8,
 }
 
 // The largest value, in tenths, that a reading stands for by its meter's error (2026-08). It may not fit two bytes.
-#[derive(Drop)]
+#[derive(Clone, Copy)]
 pub struct UpperEnd(pub u32);
 
 impl Reading {

@@ -5,8 +5,7 @@ use lib.Ieee.{Float, binary32, lt, mul, sub, of_bits, of_int}
 use Rattle.readings.specs.Value.{number}
 use Rattle.readings.specs.Readings.{connector_volts}
 use Rattle.readings.specs.declared.Measurement.{Measurement}
-use Rattle.readings.proofs.Measurement.connector_volts.Statement.{statement}
-use Rattle.readings.proofs.Measurement.connector_volts.Tie as tie
+use Rattle.readings.proofs.Measurement.connector_volts.Goals as goal
 
 module _ (m : Measurement) where
   abbrev difference : Float
@@ -20,14 +19,10 @@ module _ (m : Measurement) where
   unfolding connector_volts
   kept t = rw t
 
-returns : tie.Need-returns
+pub returns-then-volts : goal.returns-then-volts
 unfolding of_bits of_int
-returns c = negative c.before.before.before.args.self c.if1.true
+returns-then-volts c = negative c.args.self c.if-volts.true
 
-returns-2 : tie.Need-returns-2
+pub returns-else-volts : goal.returns-else-volts
 unfolding of_bits of_int
-returns-2 c = kept c.before.before.before.args.self c.if1.false
-
-pub connector_volts_spec : {M : Type 1} → statement M
-connector_volts_spec = tie.close
-    (tie.spec returns returns-2)
+returns-else-volts c = kept c.args.self c.if-volts.false
