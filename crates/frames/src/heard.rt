@@ -8,28 +8,28 @@ use super::times::{ChargingTime, Minutes, TensOfSeconds};
 use little_endian::u16_at;
 
 // H'100: maximum battery voltage, in volts.
-#[derive(Drop)]
+#[derive(Clone, Copy)]
 pub enum BatteryFrame {
     Heard(u16),
     Absent,
 }
 
 // H'101: maximum charging time.
-#[derive(Drop)]
+#[derive(Clone, Copy)]
 pub enum TimeFrame {
     Heard(ChargingTime),
     Absent,
 }
 
 // H'102: the vehicle's status.
-#[derive(Drop)]
+#[derive(Clone, Copy)]
 pub enum StatusFrame {
     Heard(VehicleStatus),
     Absent,
 }
 
 // Target voltage, requested amperes, and the two bytes of bits as they came.
-#[derive(Drop)]
+#[derive(Clone, Copy)]
 pub struct VehicleStatus {
     pub target: u16,
     pub request: u8,
@@ -38,7 +38,7 @@ pub struct VehicleStatus {
 }
 
 // What the bits say: faults and system fault clear, charging enabled, in park, contactor closed, stop requested.
-#[derive(Drop)]
+#[derive(Clone, Copy)]
 pub struct VehicleSignals {
     pub clear: bool,
     pub enabled: bool,

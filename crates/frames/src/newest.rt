@@ -9,7 +9,7 @@ use super::records::{FrameRecord, numbered_record};
 use little_endian::u16_at;
 
 // H'100, H'101 and H'102.
-#[derive(Drop)]
+#[derive(Clone, Copy)]
 pub struct HeardFrames {
     pub battery: BatteryFrame,
     pub time: TimeFrame,
@@ -17,7 +17,7 @@ pub struct HeardFrames {
 }
 
 // The number of the newest record of each kind, counted from 1; 0 where there is none.
-#[derive(Drop)]
+#[derive(Clone, Copy)]
 struct Found {
     battery: usize,
     time: usize,

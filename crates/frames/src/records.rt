@@ -4,7 +4,7 @@ ghost use Rattle.frames.specs.Records.{record_size};
 ghost use Rattle.frames.specs.Search.{numbered};
 
 // A frame record's size and the places in it.
-#[derive(Drop)]
+#[derive(Clone, Copy)]
 pub struct FrameRecord;
 
 impl FrameRecord {

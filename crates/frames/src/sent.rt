@@ -6,7 +6,7 @@ use super::times::ChargingTime;
 use little_endian::{flag, high_byte, low_byte};
 
 // H'108: rated volts, the amperes on offer, and the threshold voltage (0 before it is kept).
-#[derive(Drop)]
+#[derive(Clone, Copy)]
 pub struct Offer {
     pub volts: u16,
     pub amperes: u8,
@@ -14,7 +14,7 @@ pub struct Offer {
 }
 
 // H'109: volts at the connector and amperes, the charger's flags and the remaining time.
-#[derive(Drop)]
+#[derive(Clone, Copy)]
 pub struct Report {
     pub volts: u16,
     pub amperes: u16,
@@ -24,7 +24,7 @@ pub struct Report {
 
 // Table A.32's names: charger status, charger malfunction, connector lock, battery incompatibility,
 // charging system malfunction, charging stop control.
-#[derive(Drop)]
+#[derive(Clone, Copy)]
 pub struct ChargerFlags {
     pub charging: bool,
     pub malfunction: bool,

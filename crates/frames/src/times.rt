@@ -2,18 +2,18 @@
 ghost use Rattle.std.specs.Prelude.{◌≡◌, ◌-◌, ◌<◌};
 ghost use Rattle.frames.specs.Times.{in_minutes, charging_ticks, remaining_time, ticks_of_tens, ticks_of_minutes, tens_of_ticks, minutes_of_ticks};
 
-#[derive(Drop)]
+#[derive(Clone, Copy)]
 pub struct TensOfSeconds(pub u8);
 
-#[derive(Drop)]
+#[derive(Clone, Copy)]
 pub struct Minutes(pub u8);
 
 // Ticks of a tenth of a second, the post's control cycle.
-#[derive(Drop)]
+#[derive(Clone, Copy)]
 pub struct Ticks(pub u32);
 
 // Two bytes: tens of seconds, or H'FF there and the minutes.
-#[derive(Drop)]
+#[derive(Clone, Copy)]
 pub struct ChargingTime {
     pub tens: TensOfSeconds,
     pub minutes: Minutes,
