@@ -8,7 +8,7 @@ use super::fields::TAB;
 
 const LINE_FEED: u8 = b'\n';
 
-#[derive(Drop)]
+#[derive(Clone, Copy)]
 pub enum Answer {
     // `?`
     Unknown,
@@ -19,7 +19,7 @@ pub enum Answer {
 }
 
 // A line of at most four characters, of which the first ones count.
-#[derive(Drop)]
+#[derive(Clone, Copy)]
 struct ShortLine {
     characters: [u8; 4],
     count: usize,
@@ -62,7 +62,8 @@ fn write_short(line: ShortLine, text: &mut [u8]) -> usize
     if text.len() < count {
         return 0;
     }
-    bytes::copy(&characters[..count], text)
+    text[..count].copy_from_slice(&characters[..count]);
+    count
 }
 
 fn write_done(output: &[u8], text: &mut [u8]) -> usize

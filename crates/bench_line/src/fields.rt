@@ -9,7 +9,7 @@ use super::numbers::{Number, bits, decimal};
 pub(crate) const TAB: u8 = b'\t';
 
 // A field that is a number, and where the fields behind it begin.
-#[derive(Drop)]
+#[derive(Clone, Copy)]
 pub enum Field {
     At { value: u32, next: usize },
     Not,

@@ -103,7 +103,7 @@ fn tick_line(fields: &[u8], input: &mut [u8]) -> Line
 // A line without its line feed. A tick's bytes are in the buffer then, missing ones 0; any other line leaves it as it was.
 pub fn parse(line: &[u8], input: &mut [u8]) -> Line
     ensures { ◌≡◌ {A = Parsed} (record { line = result; input = input.new })
-        (parsed_of line.entry.now input.old) }
+        (parsed_of line.now input.old) }
 {
     if LONGEST < line.len() {
         return Line::Other;

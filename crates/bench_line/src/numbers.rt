@@ -4,7 +4,7 @@ ghost use Rattle.bench_line.specs.Digits.{number_of, decimal_of, bits_of, is_pai
 
 use super::digits::digit_value;
 
-#[derive(Drop)]
+#[derive(Clone, Copy)]
 pub enum Number {
     Value(u32),
     Not,
