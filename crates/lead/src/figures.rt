@@ -1,7 +1,7 @@
 // The figures of document 01's questions and moves and of document 02's requests.
 use readings::Tenths;
 
-#[derive(Drop)]
+#[derive(Clone, Copy)]
 pub struct Figure;
 
 impl Figure {

@@ -85,7 +85,7 @@ impl Lead {
 }
 
 // Where a phase leads: by its move, by an urgent stop, by another. It stays where it has none; past 10 there is no phase, and 0 stands.
-#[derive(Drop)]
+#[derive(Clone, Copy)]
 struct Exits(u8, u8, u8);
 
 fn exits_of(phase: u8) -> Exits

@@ -1,6 +1,6 @@
 // Names for all of document 01's numbers of phases and stop reasons, those that the code has no need of too.
 
-#[derive(Drop)]
+#[derive(Clone, Copy)]
 pub struct Phase;
 
 impl Phase {
@@ -32,7 +32,7 @@ impl Phase {
 }
 
 // The numbers of the stop questions, which are the stop reasons.
-#[derive(Drop)]
+#[derive(Clone, Copy)]
 pub struct Reason;
 
 impl Reason {

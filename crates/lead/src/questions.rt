@@ -13,7 +13,7 @@ use frames::{StatusFrame, VehicleSignals};
 use readings::{Judged, MeterErrors, Reading, Tenths, UpperEnd, is_insulated};
 
 // What is judged of a good reading: the upper ends of its volts and amperes.
-#[derive(Drop)]
+#[derive(Clone, Copy)]
 pub struct Meter {
     pub good: bool,
     pub volts: UpperEnd,
@@ -23,7 +23,7 @@ pub struct Meter {
 // What the questions and the moves look at beside the lead's own numbers: contacts, meter, what the bits of the newest H'102 say,
 // whether this tick's own has enabled clear, rated amperes, the threshold voltage (worked out in phase 1, kept in the later ones),
 // whether an insulation resistance is present and high enough, the ticks allowed in the phase, and the charging time in ticks.
-#[derive(Drop)]
+#[derive(Clone, Copy)]
 pub struct View {
     pub contacts: Contacts,
     pub meter: Meter,
@@ -38,7 +38,7 @@ pub struct View {
 }
 
 // No stop, or one with its reason.
-#[derive(Drop)]
+#[derive(Clone, Copy)]
 pub enum Verdict {
     Pass,
     Urgent(u8),

@@ -9,7 +9,7 @@ use frames::{
 use readings::{Judged, MeterErrors, Reading};
 
 // Rated volts and amperes, the cable resistance as its float's bits, and the meters' errors.
-#[derive(Drop)]
+#[derive(Clone, Copy)]
 pub struct Ratings {
     pub volts: u16,
     pub amperes: u8,
@@ -18,7 +18,7 @@ pub struct Ratings {
 }
 
 // Energy is what was commanded since the start, in watt-ticks; command is in amperes; the threshold voltage is 0 until it is kept.
-#[derive(Drop)]
+#[derive(Clone, Copy)]
 pub struct Lead {
     pub stage: Stage,
     pub energy: u64,
@@ -28,13 +28,13 @@ pub struct Lead {
 }
 
 // A lead that has heard the tick's frames: what questions and moves look at.
-#[derive(Drop)]
+#[derive(Clone, Copy)]
 pub struct HeardLead {
     pub lead: Lead,
 }
 
 // Where the conversation stands: the phase, the stop reason that is shown, and the earlier ticks in the phase.
-#[derive(Drop)]
+#[derive(Clone, Copy)]
 pub struct Stage {
     pub phase: u8,
     pub reason: u8,
@@ -42,7 +42,7 @@ pub struct Stage {
 }
 
 // What the car's frames said, and for how many ticks no H'102 has come.
-#[derive(Drop)]
+#[derive(Clone, Copy)]
 pub struct Car {
     pub battery: KnownBattery,
     pub time: KnownTime,
@@ -51,28 +51,28 @@ pub struct Car {
 }
 
 // H'100: maximum battery voltage in volts. Here as below, `seen` says whether one was heard since the start.
-#[derive(Drop)]
+#[derive(Clone, Copy)]
 pub struct KnownBattery {
     pub seen: bool,
     pub maximum: u16,
 }
 
 // H'101.
-#[derive(Drop)]
+#[derive(Clone, Copy)]
 pub struct KnownTime {
     pub seen: bool,
     pub value: ChargingTime,
 }
 
 // H'102.
-#[derive(Drop)]
+#[derive(Clone, Copy)]
 pub struct KnownStatus {
     pub seen: bool,
     pub value: VehicleStatus,
 }
 
 // Closed or pressed. `permission` is the charge permission, `leakage` the ground fault (document 01: leak trip).
-#[derive(Drop)]
+#[derive(Clone, Copy)]
 pub struct Contacts {
     pub plug: bool,
     pub permission: bool,
@@ -84,7 +84,7 @@ pub struct Contacts {
 }
 
 // A tick's input: contacts, the meter's volts and amperes judged, insulation resistance in ohms, and the frames that count.
-#[derive(Drop)]
+#[derive(Clone, Copy)]
 pub struct Input {
     pub contacts: Contacts,
     pub reading: Judged,

@@ -1,0 +1,12 @@
+-- `lead::state::KnownBattery::hear` meets its contract. By the case of the frame. Assumes nothing.
+use borrow.Author.Rules.{rules}
+use Rattle.lead.specs.Hearing.{hear_battery}
+use Rattle.lead.proofs.state.KnownBattery.hear.Goals as goal
+
+pub returns-in-Heard : goal.returns-in-Heard
+unfolding hear_battery
+returns-in-Heard c = rw c.in-Heard.is
+
+pub returns-in-Absent : goal.returns-in-Absent
+unfolding hear_battery
+returns-in-Absent c = rw c.in-Absent.is
