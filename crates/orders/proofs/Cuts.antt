@@ -1,9 +1,9 @@
 -- Where a text is cut into lines, and its first line into fields. Assumes nothing.
-use mathlib.Core.Bool.{Bool, true, false, cond, and_false}
+use mathlib.Core.Bool.{Bool, true, false, cond, and-false}
 use mathlib.Core.List.{List, [], ◌∷◌}
 use mathlib.Core.Option.{Option, none, some}
 use mathlib.Core.Path.{◌≡◌, refl, sym, ap, subst, ◌∙◌}
-use Prim.Native.Nat.{ℕ, suc, ◌+◌, ◌-◌, ◌≤◌, ◌<◌, min}
+use Prim.Native.Nat.{ℕ, suc, ◌+◌, ◌≤◌, ◌<◌, min}
 use native.Mathlib.Omega.{arith}
 use lib.Dec.{ltb, eqb}
 use lib.ListN.{length, get_or, take, drop, drop_of_length-le, length-drop}
@@ -81,7 +81,7 @@ cut_tab s = rw (lt-ltb 0 (suc (length s)) (omega arith)) (refl, omega arith)
 
 cut_feed : (s : List ℕ) → Cut (10 ∷ s) (is_tabbed (10 ∷ s))
 unfolding is_tabbed is_mark first_line first_field
-cut_feed s = rw (and_false (ltb 0 (suc (length s)))) (refl, refl)
+cut_feed s = rw (and-false (ltb 0 (suc (length s)))) (refl, refl)
 
 module _ (c : ℕ) (s : List ℕ) (e9 : eqb c 9 ≡ false) (e10 : eqb c 10 ≡ false) where
   mark_other : is_mark c ≡ false
@@ -135,7 +135,7 @@ module _ (text : List ℕ) (at end : ℕ) (e : end ≡ at + field_length (drop a
   pub tab_other : (get_or text end 0 ≡ 9 → ⊥) → is_tabbed (drop at text) ≡ false
   unfolding is_tabbed
   tab_other t = rw (ne_eqb (get_or (drop at text) (field_length (drop at text)) 0) 9 (λ q. t (sym there ∙ q)))
-      (and_false (ltb (field_length (drop at text)) (length (drop at text))))
+      (and-false (ltb (field_length (drop at text)) (length (drop at text))))
 
   pub tab_past : length text ≤ end → is_tabbed (drop at text) ≡ false
   unfolding is_tabbed

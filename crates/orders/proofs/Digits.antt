@@ -1,9 +1,9 @@
 -- Digits from a place on, up to a tab or a line feed: one more, none, too great a number. Assumes nothing.
-use mathlib.Core.Bool.{Bool, true, false, cond, not, ◌&&◌, and_false}
+use mathlib.Core.Bool.{Bool, true, false, cond, not, ◌&&◌, and-false}
 use mathlib.Core.List.{List, [], ◌∷◌}
 use mathlib.Core.Option.{Option, none, some}
 use mathlib.Core.Path.{◌≡◌, refl, sym, ap}
-use Prim.Native.Nat.{ℕ, zero, suc, ◌+◌, ◌-◌, ◌*◌, ◌≤◌, ◌<◌}
+use Prim.Native.Nat.{ℕ, zero, suc, ◌+◌, ◌*◌, ◌≤◌, ◌<◌}
 use native.Mathlib.Numerals.{add-one}
 use native.Mathlib.Omega.{arith}
 use lib.Dec.{leb, eqb}
@@ -28,7 +28,7 @@ digits_begin i s = refl
 
 pub too_great : (n i : ℕ) (s : List ℕ) → most < n → digits_from n i s ≡ Not
 unfolding digits_from
-too_great n i s h = rw (lt-leb (value_from 10 n (first_field s)) most (omega (arith, value_grows 10 n (first_field s) (omega arith))), and_false (all_digits 10 (first_field s)))
+too_great n i s h = rw (lt-leb (value_from 10 n (first_field s)) most (omega (arith, value_grows 10 n (first_field s) (omega arith))), and-false (all_digits 10 (first_field s)))
 
 -- a digit ends no field
 tab_value : digit_value 9 ≡ 16

@@ -5,8 +5,8 @@ use mathlib.Core.Path.{◌≡◌, refl, sym, ap, ◌∙◌}
 use Prim.Native.Nat.{ℕ, zero, suc, ◌+◌, ◌-◌, ◌*◌, ◌≤◌, ◌<◌}
 use native.Mathlib.Numerals.{add-one}
 use native.Mathlib.Omega.{arith}
-use lib.ListN.{length, take, drop, length-append, length-take, length-drop, drop_of_length-le}
-use lib.Seq.{take-append-add, drop-append-add, drop-drop, take_at, get_or-take, get_or-drop, take-length}
+use lib.ListN.{length, take, drop, length-append, length-drop, drop_of_length-le}
+use lib.Seq.{take-append-add, drop-append-add, drop-drop, take_at, get_or-take, get_or-drop}
 use borrow.Author.Tests.{eq-eqb, ne_eqb}
 use Rattle.little_endian.specs.Numbers.{u32_at}
 use Rattle.little_endian.proofs.Bytes.{u32_back}
@@ -157,18 +157,10 @@ pub placed :
     (at room : ℕ) (s w p b : List ℕ)
     → room ≡ place_size
     → w ≡ b
-    → length b ≡ place_size
-    → p ≡ take (length w) w ++ drop (length w) (take room (drop at s))
+    → p ≡ w
     → take at s ++ (p ++ drop room (drop at s)) ≡ take at s ++ b ++ drop (at + place_size) s
-placed at room s w p b er ew eb ep =
-    let short : length (take room (drop at s)) ≤ length w = omega (arith, length-take room (drop at s), ap length ew) in
-    let whole : p ≡ b =
-    ep
-    ∙ ap (λ (r : List ℕ). take (length w) w ++ r) (drop_of_length-le (take room (drop at s)) short)
-    ∙ append-nil _
-    ∙ take-length w
-    ∙ ew in
-    rw (whole, er, drop-drop place_size at s) (sym (append_assoc (take at s) b (drop (at + place_size) s)))
+placed at room s w p b er ew ep =
+    rw (ep ∙ ew, er, drop-drop place_size at s) (sym (append_assoc (take at s) b (drop (at + place_size) s)))
 
 pub places_begin : (count : ℕ) (s : List ℕ) → orders_in count s ≡ orders_in (count - 0) (drop (place_size * 0) s)
 places_begin count s = let e : count - 0 ≡ count = omega arith in rw e

@@ -1,13 +1,12 @@
 -- A text read line by line: what holds before each line, how a line is refused, and one order more. Assumes nothing.
 use mathlib.Core.Bool.{Bool, true, false}
-use mathlib.Core.List.{List, [], ◌∷◌, ◌++◌, append-nil}
+use mathlib.Core.List.{List, [], ◌∷◌, ◌++◌}
 use mathlib.Core.Option.{Option, none, some}
 use mathlib.Core.Path.{◌≡◌, refl, sym, ap, ◌∙◌}
-use Prim.Native.Nat.{ℕ, ◌+◌, ◌-◌, ◌≤◌, ◌<◌, min}
+use Prim.Native.Nat.{ℕ, ◌+◌, ◌≤◌, ◌<◌, min}
 use native.Mathlib.Omega.{arith}
 use lib.Dec.{leb}
-use lib.ListN.{length, take, drop, length-append, drop_of_length-le}
-use lib.Seq.{take-length}
+use lib.ListN.{length, drop, length-append, drop_of_length-le}
 use borrow.Author.Tests.{le-leb, lt-leb, eq-eqb, ne_eqb}
 use Rattle.orders.specs.Lines.{lines_of, order_of}
 use Rattle.orders.specs.Places.{place_count, orders_length, order_bytes, orders_in, orders_bytes, is_used}
@@ -129,7 +128,7 @@ module _ (text orders fresh : List ℕ) (r : Outcome) (h : length orders ≡ ord
   pub orders_taken :
       (after : List ℕ)
       → r.number ≡ 0
-      → after ≡ take (length fresh) fresh ++ drop (length fresh) orders
+      → after ≡ fresh
       → ◌≡◌ {A = Taken} (record { number = r.number; orders = after }) (taken_of text orders)
   unfolding taken_of
   orders_taken after z e = rw (eq-eqb (length orders) orders_length h) (go (answer_to text) known.0 known.1 (answer_sound text))
@@ -141,13 +140,7 @@ module _ (text orders fresh : List ℕ) (r : Outcome) (h : length orders ≡ ord
           → Sound [] (lines_of text) a
           → ◌≡◌ {A = Taken} (record { number = r.number; orders = after }) (record { number = (outcome_of a).number; orders = bytes_after a orders })
       go (Accepted os) er eb s =
-          let long : length orders ≤ length fresh = omega (arith, ap length eb, places_length place_count os) in
-          let whole : after ≡ orders_bytes place_count os =
-          e
-          ∙ ap (λ (s : List ℕ). take (length fresh) fresh ++ s) (drop_of_length-le orders long)
-          ∙ append-nil (take (length fresh) fresh)
-          ∙ take-length fresh
-          ∙ eb in
+          let whole : after ≡ orders_bytes place_count os = e ∙ eb in
           rw (er, whole)
       go (Refused number line) er eb s = absurd (omega (arith, ap (λ (x : Outcome). x.number) er))
 

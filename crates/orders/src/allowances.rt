@@ -5,7 +5,7 @@ ghost use Rattle.orders.specs.Allowances.{covers, chosen, allowance_of};
 use super::places::Order;
 
 // The watts that count so far, and the least order number that would count instead.
-#[derive(Drop)]
+#[derive(Clone, Copy)]
 pub struct Choice {
     pub least: u64,
     pub watts: u32,

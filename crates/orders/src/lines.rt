@@ -8,7 +8,7 @@ use super::numbers::{Found, TAB, number_at};
 use super::places::Order;
 
 // An order, and where its line ends.
-#[derive(Drop)]
+#[derive(Clone, Copy)]
 pub enum Read {
     Line { order: Order, end: usize },
     Not,

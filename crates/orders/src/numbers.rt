@@ -9,7 +9,7 @@ pub(crate) const TAB: u8 = b'\t';
 const LINE_FEED: u8 = b'\n';
 
 // A number, and where its field ends.
-#[derive(Drop)]
+#[derive(Clone, Copy)]
 pub enum Found {
     At { value: u32, end: usize },
     Not,

@@ -2,11 +2,10 @@
 ghost use Rattle.std.specs.Prelude.{◌≡◌, ◌++◌, ◌+◌, ◌*◌, ◌≤◌, length, take, drop};
 ghost use Rattle.orders.specs.Places.{place_size, orders_length, unused, order_in, order_bytes, orders_in, no_orders, is_used};
 
-use bytes::copy;
 use little_endian::{u32_at, u32_bytes};
 
 // Both ticks belong to those that it covers. The number is the order's, not a tick's.
-#[derive(Drop)]
+#[derive(Clone, Copy)]
 pub struct Order {
     pub number: u32,
     pub first: u32,
@@ -77,7 +76,7 @@ pub(crate) fn put(order: Order, place: usize, orders: &mut [u8])
 {
     let at = Order::SIZE * place;
     let bytes = order.bytes();
-    copy(&bytes, &mut orders[at..at + Order::SIZE]);
+    orders[at..at + Order::SIZE].copy_from_slice(&bytes);
 }
 
 // Makes every place unused.

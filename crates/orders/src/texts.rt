@@ -7,7 +7,7 @@ use super::lines::{Read, order_at};
 use super::places::{PLACE_COUNT, clear, is_used, put};
 
 // The numbers that a text is answered with: 0, or that of the first question that gets a no.
-#[derive(Drop)]
+#[derive(Clone, Copy)]
 pub struct Refusal;
 
 impl Refusal {
@@ -25,7 +25,7 @@ impl Refusal {
 }
 
 // The number that a text is answered with, and the line at which it is refused.
-#[derive(Drop)]
+#[derive(Clone, Copy)]
 pub struct Outcome {
     pub number: u32,
     pub line: u32,
