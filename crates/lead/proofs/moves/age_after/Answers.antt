@@ -12,17 +12,17 @@ use Rattle.lead.proofs.moves.age_after.Goals as goal
 pub returns-then-age-lt4294967295 : goal.returns-then-age-lt4294967295
 unfolding age_after
 returns-then-age-lt4294967295 c =
-    let k = c.args in
-    counts _ _ c.if-age-lt4294967295.true ∙ when_true (eqb k k.after) _ 0 (eq-eqb k k.after c.if-before-after.true)
+    let a = c.args in
+    counts _ _ c.if-age-lt4294967295.true ∙ when_true (eqb a.before a.after) _ 0 (eq-eqb a.before a.after c.if-before-after.true)
 
 pub returns-else-age-lt4294967295 : goal.returns-else-age-lt4294967295
 unfolding age_after
 returns-else-age-lt4294967295 c =
-    let k = c.args in
-    full _ _ c.if-age-lt4294967295.false ∙ when_true (eqb k k.after) _ 0 (eq-eqb k k.after c.if-before-after.true)
+    let a = c.args in
+    full _ _ c.if-age-lt4294967295.false ∙ when_true (eqb a.before a.after) _ 0 (eq-eqb a.before a.after c.if-before-after.true)
 
 pub returns : goal.returns
 unfolding age_after
 returns c =
-    let k = c.args in
-    when_false (eqb k k.after) (min (k.age + 1) 4294967295) 0 (ne_eqb k k.after c.if-before-after.false)
+    let a = c.args in
+    when_false (eqb a.before a.after) (min (a.age + 1) 4294967295) 0 (ne_eqb a.before a.after c.if-before-after.false)

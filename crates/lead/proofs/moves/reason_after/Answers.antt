@@ -12,10 +12,10 @@ pub returns-then-recorded-stop : goal.returns-then-recorded-stop
 unfolding reason_after
 returns-then-recorded-stop c =
     let k = c.args in
-    rw (← c.reason-stop.ensures) (when_true (between 7 8 k.phase || eqb c.reason-stop.result no_reason) k.reason-stop c.reason-stop.result c.if-recorded-stop.true)
+    rw (← c.reason-stop.ensures) (when_true (between 7 8 k.phase || eqb c.reason-stop.result no_reason) k.reason c.reason-stop.result c.if-recorded-stop.true)
 
 pub returns-else-recorded-stop : goal.returns-else-recorded-stop
 unfolding reason_after
 returns-else-recorded-stop c =
     let k = c.args in
-    rw (← c.reason-stop.ensures) (when_false (between 7 8 k.phase || eqb c.reason-stop.result no_reason) k.reason-stop c.reason-stop.result c.if-recorded-stop.false)
+    rw (← c.reason-stop.ensures) (when_false (between 7 8 k.phase || eqb c.reason-stop.result no_reason) k.reason c.reason-stop.result c.if-recorded-stop.false)

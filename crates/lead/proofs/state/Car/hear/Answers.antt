@@ -7,13 +7,13 @@ use Rattle.lead.proofs.state.Car.hear.Goals as goal
 
 pub returns-then-not-listening : goal.returns-then-not-listening
 unfolding hear_car
-returns-then-not-listening c = rw (not-true (between 1 8 c.args.phase) c.if-not-listening.true)
+returns-then-not-listening c = rw c.if-not-listening.true
 
 pub returns-then-phase-ne-HANDSHAKE : goal.returns-then-phase-ne-HANDSHAKE
 unfolding hear_car
 returns-then-phase-ne-HANDSHAKE c =
     let p = c.args.phase in
-    rw (not-false (between 1 8 p) c.if-not-listening.false, ne_eqb p 1 c.if-phase-ne-HANDSHAKE.true, c.silence_after.ensures, c.hear-self.ensures)
+    rw (c.if-not-listening.false, ne_eqb p 1 c.if-phase-ne-HANDSHAKE.true, c.silence_after.ensures, c.hear-self.ensures)
 
 pub returns : goal.returns
 unfolding hear_car

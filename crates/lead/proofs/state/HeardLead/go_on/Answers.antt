@@ -1,6 +1,6 @@
 -- `lead::state::HeardLead::go_on` meets its contract. By what it calls. Assumes nothing.
 use borrow.Author.Rules.{rules}
-use Rattle.lead-1.specs.Moves.{go_on}
+use Rattle.lead.specs.Moves.{go_on}
 use Rattle.lead.proofs.state.HeardLead.go_on.Goals as goal
 
 pub returns : goal.returns
