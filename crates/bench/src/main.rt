@@ -18,7 +18,7 @@ const TEXT: usize = 65536;
 
 // What is carried from one piece to the next, beside the buffers: how many characters of the line begun are in the line buffer, the post's
 // leads (0 before an accepted setup), and whether input or output failed.
-#[derive(Drop)]
+#[derive(Clone, Copy)]
 pub struct Carried {
     pub begun: usize,
     pub leads: u8,

@@ -15,7 +15,7 @@ const BEFORE_INPUT: usize = 5;
 const INPUT: usize = (LONGEST - BEFORE_INPUT) / 2;
 
 // The post's leads after the line, 0 before an accepted setup; and how many characters were written.
-#[derive(Drop)]
+#[derive(Clone, Copy)]
 pub struct Answered {
     pub leads: u8,
     pub count: usize,

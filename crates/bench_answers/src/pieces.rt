@@ -22,7 +22,7 @@ const LINE_FEED: u8 = b'\n';
 
 // How many characters of a piece have been read, how many of the line begun are in the line buffer, the post's leads (0 before an accepted
 // setup), and how many characters of answers are in the text buffer.
-#[derive(Drop)]
+#[derive(Clone, Copy)]
 pub struct Progress {
     pub read: usize,
     pub begun: usize,

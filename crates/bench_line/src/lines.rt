@@ -9,7 +9,7 @@ use setup_numbers::{SetupErrors, SetupNumbers};
 // The most characters of a line, without its line feed.
 pub const LONGEST: usize = 1000;
 
-#[derive(Drop)]
+#[derive(Clone, Copy)]
 pub enum Line {
     Setup(SetupNumbers),
     // How many bytes of input the line has.

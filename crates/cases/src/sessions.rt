@@ -35,7 +35,7 @@ const LIMIT: [u8; 2] = [0x88, 0x13];
 
 // For so many ticks: the contacts (1 plug, 2 permission, 4 lock, 8 emergency, 16 stop, 32 start), which readings are there (1 volts, 2 amperes,
 // 4 ohms), the volts' bits, and the status that both cars send (1 enabled, 8 contactor open).
-#[derive(Drop)]
+#[derive(Clone, Copy)]
 struct Step {
     ticks: u8,
     contacts: u8,

@@ -8,7 +8,7 @@ use lead::{Contacts, Input};
 use readings::{Reading, judge};
 
 // The input's size, the places in it, and the weights in its bytes of bits.
-#[derive(Drop)]
+#[derive(Clone, Copy)]
 pub struct InputRecord;
 
 impl InputRecord {

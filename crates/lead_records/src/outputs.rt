@@ -10,11 +10,11 @@ use little_endian::{high_byte, low_byte};
 use readings::Judged;
 
 // The output's size, the places in it, and the weights in its byte of switches.
-#[derive(Drop)]
+#[derive(Clone, Copy)]
 pub struct OutputRecord;
 
 // Volts and amperes as H'109 shows them, whole.
-#[derive(Drop)]
+#[derive(Clone, Copy)]
 struct ShownReading {
     volts: u16,
     amperes: u16,

@@ -8,7 +8,7 @@ use lead::{Car, KnownBattery, KnownStatus, KnownTime, Lead, Ratings, Stage};
 use little_endian::{flag, high_byte, low_byte, u16_at, u32_at, u32_bytes, u64_at, u64_bytes};
 
 // The state's size, the places in it, and the weights in its byte of frames seen.
-#[derive(Drop)]
+#[derive(Clone, Copy)]
 pub struct StateRecord;
 
 impl StateRecord {

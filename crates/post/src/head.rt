@@ -13,7 +13,7 @@ use readings::{MeterErrors, is_allowed_resistance};
 use setup_numbers::{SetupErrors, SetupNumbers};
 
 // How many leads there are, and what setup fixed for all of them.
-#[derive(Drop)]
+#[derive(Clone, Copy)]
 pub struct Head {
     pub leads: u8,
     pub ratings: Ratings,

@@ -1,5 +1,5 @@
-// The post: one to four leads, and the two calls of the C host. Document 01, 'The post's two calls'.
-// Rests on the promises of `lead`, `lead_records`, `sharing`, `readings`, `setup_numbers`, `little_endian`, `common` and `bytes`.
+// The post: one to four leads, and its two calls, which `post_c` hands to C. Document 01, 'The post's two calls'.
+// Rests on the promises of `lead`, `lead_records`, `sharing`, `readings`, `setup_numbers`, `little_endian` and `common`.
 #![tactic(auto)]
 
 mod fresh;
@@ -28,8 +28,7 @@ use ticks::carry_out;
 
 // Writes a fresh state. The resistance is the cable's, as its float's bits; the errors are the meters', in tenths. Returns 0, or the
 // number of the first question that gets a no, and then nothing has changed.
-#[unsafe(no_mangle)]
-pub extern "C" fn setup(
+pub fn setup(
     leads: u32,
     rated_volts: u32,
     rated_amperes: u32,
@@ -68,8 +67,7 @@ pub extern "C" fn setup(
 
 // Carries a tick out: every lead's state and output are written. Returns 0, or the number of the first question that gets a no, and then
 // nothing has changed.
-#[unsafe(no_mangle)]
-pub extern "C" fn tick(state: &mut [u8], input: &[u8], output: &mut [u8]) -> u32
+pub fn tick(state: &mut [u8], input: &[u8], output: &mut [u8]) -> u32
     ensures { ◌≡◌ {A = Ticked} (record { number = result; state = state.new; output = output.new })
         (tick_of state.old input.now output.old) }
 {

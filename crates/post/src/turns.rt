@@ -18,7 +18,7 @@ use readings::{Judged, Tenths};
 use sharing::PLACES;
 
 // A lead after its own decision, and what its output will show of its input: the lock contact and the meter's reading.
-#[derive(Drop)]
+#[derive(Clone, Copy)]
 pub struct Turn {
     pub lead: Lead,
     pub lock: bool,
@@ -61,8 +61,8 @@ impl Turn {
 
     // From a lead's records of state and input.
     fn decided(ratings: Ratings, state: &[u8], input: &[u8]) -> Turn
-        requires state_len { (length state.now ≡ state_size) × (length input.now ≡ input_size) }
-        requires resistance_value { allowed_resistance ratings.resistance ≡ true }
+        requires lengths { (length state.now ≡ state_size) × (length input.now ≡ input_size) }
+        requires resistance { allowed_resistance ratings.resistance ≡ true }
         ensures { result ≡ decided_turn ratings (decode state.now)
             (input_of input.now ratings.resistance) }
     {
@@ -77,7 +77,7 @@ impl Turn {
 }
 
 // Every lead's turn, and what it wants.
-#[derive(Drop)]
+#[derive(Clone, Copy)]
 pub struct Decided {
     pub turns: [Turn; PLACES],
     pub wants: [u32; PLACES],
@@ -85,11 +85,11 @@ pub struct Decided {
 
 // Places past the post's leads stay empty and want nothing.
 pub(crate) fn decide_all(head: Head, state: &[u8], input: &[u8]) -> Decided
-    requires leads_le_places { (head.leads ≤ places) × (allowed_resistance head.ratings.resistance ≡ true) }
-    requires state_len { (length state.now ≡ state_length head.leads) × (length input.now ≡ input_length head.leads) }
-    ensures by_index { (k : ℕ) → get_or result.turns k empty_turn
+    requires posts { (head.leads ≤ places) × (allowed_resistance head.ratings.resistance ≡ true) }
+    requires lengths { (length state.now ≡ state_length head.leads) × (length input.now ≡ input_length head.leads) }
+    ensures turns { (k : ℕ) → get_or result.turns k empty_turn
         ≡ among head.leads (turn_at head (tick_input input.now) (leads_of state.now)) k }
-    ensures by_index_2 { (k : ℕ) → want_of result.wants k ≡ wanted_watts head.ratings (get_or result.turns k empty_turn).lead }
+    ensures wants { (k : ℕ) → want_of result.wants k ≡ wanted_watts head.ratings (get_or result.turns k empty_turn).lead }
 {
     let mut turns = [Turn::empty(); PLACES];
     let mut wants = [0u32; PLACES];

@@ -8,7 +8,6 @@ ghost use Rattle.post.specs.Turns.{empty_turn, commanded_turn, turn_shown};
 
 use super::head::Head;
 use super::turns::Turn;
-use bytes::copy;
 use lead_records::{OutputRecord, StateRecord};
 use sharing::PLACES;
 
@@ -35,7 +34,7 @@ pub(crate) fn write_leads(
         let turn = turns[i].command(head.ratings, level);
         let reading = turn.reading;
         let kept = StateRecord::bytes(turn.lead);
-        copy(&kept, &mut state[at..at + StateRecord::SIZE]);
+        state[at..at + StateRecord::SIZE].copy_from_slice(&kept);
         OutputRecord::write(
             head.ratings,
             level,

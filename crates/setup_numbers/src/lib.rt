@@ -3,7 +3,7 @@
 #![tactic(auto)]
 
 // None of them is cut off. The resistance is the cable's, as its float's bits.
-#[derive(Drop)]
+#[derive(Clone, Copy)]
 pub struct SetupNumbers {
     pub leads: u32,
     pub volts: u32,
@@ -13,7 +13,7 @@ pub struct SetupNumbers {
 }
 
 // The meters' errors, in tenths of a volt and of an ampere (2026-08).
-#[derive(Drop)]
+#[derive(Clone, Copy)]
 pub struct SetupErrors {
     pub volts: u32,
     pub amperes: u32,

@@ -1,5 +1,4 @@
 -- `lead::hearing::silence_after` meets its contract. A count that stops at its largest value. Assumes nothing.
-use borrow.Author.Rules.{rules}
 use Rattle.lead.specs.Hearing.{silence_after}
 use Rattle.lead.proofs.Counting.{counts, full}
 use Rattle.lead.proofs.hearing.silence_after.Goals as goal

@@ -1,5 +1,4 @@
 -- `lead::moves::age_after` meets its contract. A count that stops at its largest value. Assumes nothing.
-use borrow.Author.Rules.{rules}
 use mathlib.Core.Path.{◌∙◌}
 use Prim.Native.Nat.{◌+◌, min}
 use lib.Dec.{eqb}

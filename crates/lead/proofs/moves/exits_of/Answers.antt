@@ -3,7 +3,6 @@ use Prim.Native.Nat.{◌≤◌}
 use native.Mathlib.Omega.{arith}
 use lib.ListN.{get_or-eq_default}
 use Rattle.lead.specs.Moves.{move_to, urgent_to, ordinary_to}
-use Rattle.common.proofs.Bools.{none_below}
 use Rattle.lead.proofs.moves.exits_of.Goals as goal
 
 pub returns-in_default : goal.returns-in_default

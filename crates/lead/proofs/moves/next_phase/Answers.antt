@@ -1,5 +1,4 @@
 -- `lead::moves::next_phase` meets its contract. One exit a verdict. Assumes nothing.
-use borrow.Author.Rules.{rules}
 use Rattle.lead.specs.Moves.{next_phase}
 use Rattle.lead.proofs.moves.next_phase.Goals as goal
 

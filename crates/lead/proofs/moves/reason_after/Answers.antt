@@ -1,5 +1,4 @@
 -- `lead::moves::reason_after` meets its contract. By the reason of the verdict. Assumes nothing.
-use borrow.Author.Rules.{rules}
 use mathlib.Core.Bool.{◌||◌}
 use lib.Dec.{eqb}
 use Rattle.common.specs.Tests.{between}

@@ -1,9 +1,7 @@
 -- `lead::power::carried` meets its contract. By whether the level meets the want. Assumes nothing.
-use borrow.Author.Rules.{rules}
-use Prim.Native.Nat.{◌≤◌, ◌/◌}
 use native.Mathlib.Nat.{div-zero}
 use native.Mathlib.Omega.{arith}
-use Rattle.lead.proofs.Watts.{met, unmet, unmet_most}
+use Rattle.lead.proofs.Watts.{met, unmet}
 use Rattle.lead.proofs.power.carried.Goals as goal
 
 pub returns-then-volts-eq0 : goal.returns-then-volts-eq0

@@ -1,5 +1,4 @@
 -- `lead::power::energy_after` meets its contract. By whether there is room. Assumes nothing.
-use borrow.Author.Rules.{rules}
 use native.Mathlib.Omega.{arith}
 use Rattle.lead.specs.Power.{energy_after}
 use Rattle.lead.proofs.power.energy_after.Goals as goal

@@ -1,5 +1,4 @@
 -- `lead::questions::is_revoking` meets its contract. By the case of the frame. Assumes nothing.
-use borrow.Author.Rules.{rules}
 use Rattle.lead.proofs.questions.is_revoking.Goals as goal
 
 pub returns-in-Heard : goal.returns-in-Heard

@@ -1,5 +1,4 @@
 -- `lead::questions::Meter::from_reading` meets its contract. By the case of the reading. Assumes nothing.
-use borrow.Author.Rules.{rules}
 use Rattle.lead.proofs.questions.Meter.from_reading.Goals as goal
 
 pub returns-in-Good : goal.returns-in-Good

@@ -1,7 +1,5 @@
 -- `lead::state::Car::hear` meets its contract. By the phase: deaf, past phase 1, in phase 1. Assumes nothing.
-use borrow.Author.Rules.{rules}
-use borrow.Author.Tests.{not-true, not-false, ne_eqb}
-use Rattle.common.specs.Tests.{between}
+use borrow.Author.Tests.{ne_eqb}
 use Rattle.lead.specs.Hearing.{hear_car}
 use Rattle.lead.proofs.state.Car.hear.Goals as goal
 

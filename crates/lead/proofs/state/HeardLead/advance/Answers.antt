@@ -1,5 +1,4 @@
 -- `lead::state::HeardLead::advance` meets its contract. By whether the lead is started. Assumes nothing.
-use borrow.Author.Rules.{rules}
 use Rattle.lead.specs.Moves.{advance}
 use Rattle.lead.proofs.state.HeardLead.advance.Goals as goal
 

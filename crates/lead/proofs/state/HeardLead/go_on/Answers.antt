@@ -1,5 +1,4 @@
 -- `lead::state::HeardLead::go_on` meets its contract. By what it calls. Assumes nothing.
-use borrow.Author.Rules.{rules}
 use Rattle.lead.specs.Moves.{go_on}
 use Rattle.lead.proofs.state.HeardLead.go_on.Goals as goal
 

@@ -1,12 +1,10 @@
 -- `lead::state::HeardLead::may_move` meets its contract. A row a phase; past its end the list gives false. Assumes nothing.
-use borrow.Author.Rules.{rules}
 use mathlib.Core.Path.{sym}
 use mathlib.Core.Bool.{false}
 use Prim.Native.Nat.{◌≤◌}
 use native.Mathlib.Omega.{arith}
 use lib.ListN.{get_or-eq_default}
 use Rattle.lead.specs.Moves.{moves, may_move}
-use Rattle.common.proofs.Bools.{none_below}
 use Rattle.lead.proofs.state.HeardLead.may_move.Goals as goal
 
 pub returns-in-0 : goal.returns-in-0

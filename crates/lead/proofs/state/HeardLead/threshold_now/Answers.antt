@@ -1,5 +1,4 @@
 -- `lead::state::HeardLead::threshold_now` meets its contract. By the phase. Assumes nothing.
-use borrow.Author.Rules.{rules}
 use borrow.Author.Tests.{ne_eqb}
 use Rattle.lead.proofs.state.HeardLead.threshold_now.Goals as goal
 

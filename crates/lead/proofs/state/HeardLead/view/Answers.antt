@@ -1,5 +1,4 @@
 -- `lead::state::HeardLead::view` meets its contract. By what it calls. Assumes nothing.
-use borrow.Author.Rules.{rules}
 use Rattle.lead.specs.Questions.{view_of}
 use Rattle.lead.proofs.state.HeardLead.view.Goals as goal
 

@@ -1,5 +1,4 @@
 -- `lead::state::KnownBattery::hear` meets its contract. By the case of the frame. Assumes nothing.
-use borrow.Author.Rules.{rules}
 use Rattle.lead.specs.Hearing.{hear_battery}
 use Rattle.lead.proofs.state.KnownBattery.hear.Goals as goal
 

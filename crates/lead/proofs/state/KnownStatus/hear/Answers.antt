@@ -1,5 +1,4 @@
 -- `lead::state::KnownStatus::hear` meets its contract. By the case of the frame. Assumes nothing.
-use borrow.Author.Rules.{rules}
 use Rattle.lead.specs.Hearing.{hear_status}
 use Rattle.lead.proofs.state.KnownStatus.hear.Goals as goal
 

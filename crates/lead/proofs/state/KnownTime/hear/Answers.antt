@@ -1,5 +1,4 @@
 -- `lead::state::KnownTime::hear` meets its contract. By the case of the frame. Assumes nothing.
-use borrow.Author.Rules.{rules}
 use Rattle.lead.specs.Hearing.{hear_time}
 use Rattle.lead.proofs.state.KnownTime.hear.Goals as goal
 

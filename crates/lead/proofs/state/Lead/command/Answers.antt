@@ -1,5 +1,4 @@
 -- `lead::state::Lead::command` meets its contract. By what it calls. Assumes nothing.
-use borrow.Author.Rules.{rules}
 use Rattle.lead.specs.Power.{wanted_watts, commanded}
 use Rattle.lead.proofs.state.Lead.command.Goals as goal
 

@@ -1,5 +1,4 @@
 -- `lead::state::Lead::decide` meets its contract. One step after the other. Assumes nothing.
-use borrow.Author.Rules.{rules}
 use Rattle.lead.specs.Moves.{decide}
 use Rattle.lead.proofs.state.Lead.decide.Goals as goal
 

@@ -1,5 +1,4 @@
 -- `lead::state::Lead::hear` meets its contract. By what it calls. Assumes nothing.
-use borrow.Author.Rules.{rules}
 use Rattle.lead.specs.Hearing.{hear}
 use Rattle.lead.proofs.state.Lead.hear.Goals as goal
 

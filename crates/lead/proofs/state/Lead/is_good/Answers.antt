@@ -1,5 +1,4 @@
 -- `lead::state::Lead::is_good` meets its contract. The test is the rule. Assumes nothing.
-use borrow.Author.Rules.{rules}
 use Rattle.lead.specs.Good.{good_lead}
 use Rattle.lead.proofs.state.Lead.is_good.Goals as goal
 

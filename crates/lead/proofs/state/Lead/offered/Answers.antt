@@ -1,5 +1,4 @@
 -- `lead::state::Lead::offered` meets its contract. What the smaller of two watts carries is the smaller of two amperes. Assumes nothing.
-use borrow.Author.Rules.{rules}
 use mathlib.Core.Path.{◌∙◌}
 use borrow.Author.Tests.{ne_eqb}
 use Rattle.lead.specs.Power.{offered}

@@ -1,6 +1,4 @@
 -- `lead::state::Lead::wanted` meets its contract. By the phase. Assumes nothing.
-use borrow.Author.Rules.{rules}
-use native.Mathlib.Omega.{arith}
 use borrow.Author.Tests.{ne_eqb}
 use Rattle.lead.specs.Power.{wanted}
 use Rattle.lead.proofs.state.Lead.wanted.Goals as goal

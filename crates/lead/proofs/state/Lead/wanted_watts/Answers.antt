@@ -1,5 +1,4 @@
 -- `lead::state::Lead::wanted_watts` meets its contract. By what it calls. Assumes nothing.
-use borrow.Author.Rules.{rules}
 use Rattle.lead.specs.Power.{wanted_watts}
 use Rattle.lead.proofs.state.Lead.wanted_watts.Goals as goal
 
