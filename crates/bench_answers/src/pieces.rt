@@ -8,8 +8,6 @@ ghost use Rattle.bench_answers.specs.Progress.{going_in, comes_to, HaveRoom, Fit
 use super::answers::answer;
 use super::posts::lesser;
 use bench_line::LONGEST;
-use bytes::copy;
-use bytes::scan::find;
 use post::MOST_OUTPUT;
 
 // One character more than a line may have: a longer line is too long whatever follows.
@@ -36,7 +34,7 @@ fn add(begun: usize, part: &[u8], line: &mut [u8]) -> usize
     ensures { (result ≤ line_room) × (take result line.new ≡ joins (take begun line.old) part.now) }
 {
     let count = lesser(part.len(), LINE - begun);
-    copy(&part[..count], &mut line[begun..]);
+    line[begun..begun + count].copy_from_slice(&part[..count]);
     begun + count
 }
 

@@ -21,6 +21,15 @@ module _ (w l p : List ℕ) (copied : p ≡ take (length w) w ++ drop (length w)
       let room : length rest ≤ length (w ++ rest) - n = rw length-append (omega arith) in
       rw (begun, take_at w rest n e, drop_at w rest n e, drop_of_length-le rest room, append-nil q)
 
+-- w written over the first n of l, then q over what is behind w
+pub written_both :
+    (w l q : List ℕ) (n : ℕ)
+    → length w ≡ n
+    → take n (w ++ drop n l) ++ (q ++ drop (length (w ++ drop n l) - n) (drop n (w ++ drop n l))) ≡ w ++ q
+written_both w l q n e =
+    let copied : w ++ drop n l ≡ take (length w) w ++ drop (length w) l = rw (take-length, e) refl in
+    copied_both w l (w ++ drop n l) copied n q e
+
 pub one_byte : (l : List ℕ) (v : ℕ) → length l ≡ 1 → set l 0 v ≡ v ∷ []
 one_byte [] v e = absurd (omega arith)
 one_byte (x ∷ []) v e = refl

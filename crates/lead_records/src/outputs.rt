@@ -3,7 +3,6 @@ ghost use Rattle.std.specs.Prelude.{◌≡◌, ◌++◌, length};
 ghost use Rattle.frames.specs.Sent.{offer_bytes, report_bytes};
 ghost use Rattle.lead_records.specs.Outputs.{output_size, frames_size, switches, test_volts, offer_of, flags_of, remaining_of, shown_reading, report_of, while_sending, output_of};
 
-use bytes::copy;
 use frames::{ChargerFlags, ChargingTime, Minutes, Offer, Report, TensOfSeconds, Ticks};
 use lead::{Lead, Phase, Ratings, Reason};
 use little_endian::{high_byte, low_byte};
@@ -176,14 +175,11 @@ impl OutputRecord {
         if sending {
             let offer = OutputRecord::offer(ratings, level, lead);
             let report = OutputRecord::report(lock, reading, lead);
-            copy(&offer, frames);
-            copy(
-                &report,
-                &mut frames[OutputRecord::REPORT - OutputRecord::OFFER..],
-            );
+            frames[..OutputRecord::REPORT - OutputRecord::OFFER].copy_from_slice(&offer);
+            frames[OutputRecord::REPORT - OutputRecord::OFFER..].copy_from_slice(&report);
             return;
         }
-        copy(&[0u8; OutputRecord::SIZE - OutputRecord::OFFER], frames);
+        frames.copy_from_slice(&[0u8; OutputRecord::SIZE - OutputRecord::OFFER]);
     }
 
     // Of the lead after the tick, with the tick's level, lock contact and reading.
@@ -207,7 +203,7 @@ impl OutputRecord {
         shown[OutputRecord::SWITCHES] = OutputRecord::switches(phase);
         shown[OutputRecord::TEST_VOLTS] = low_byte(test);
         shown[OutputRecord::TEST_VOLTS + 1] = high_byte(test);
-        copy(&shown, output);
+        output[..OutputRecord::OFFER].copy_from_slice(&shown);
         OutputRecord::write_frames(
             ratings,
             level,

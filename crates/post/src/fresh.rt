@@ -7,7 +7,6 @@ ghost use Rattle.post.specs.Heads.{head_size, state_length};
 ghost use Rattle.post.specs.Rules.{post_bytes};
 
 use super::head::Head;
-use bytes::copy;
 use lead::Lead;
 use lead_records::StateRecord;
 
@@ -21,7 +20,7 @@ fn write_fresh_leads(leads: u8, state: &mut [u8])
     let mut i = 0;
     while i < leads {
         let at = Head::SIZE + StateRecord::SIZE * i;
-        copy(&kept, &mut state[at..at + StateRecord::SIZE]);
+        state[at..at + StateRecord::SIZE].copy_from_slice(&kept);
         i += 1;
     }
 }
@@ -30,6 +29,6 @@ pub(crate) fn write_fresh(head: Head, state: &mut [u8])
     requires { length state.old ≡ state_length head.leads }
     ensures { state.new ≡ post_bytes head (λ k. fresh) }
 {
-    copy(&head.bytes(), state);
+    state[..Head::SIZE].copy_from_slice(&head.bytes());
     write_fresh_leads(head.leads, state);
 }

@@ -1,0 +1,21 @@
+-- `lead_records::inputs::InputRecord::read` meets its contract. By what it calls; a number read in its part is that of the whole. Assumes nothing.
+use borrow.Author.Rules.{rules}
+use Rattle.lead_records.specs.Inputs.{input_of}
+use Rattle.lead_records.proofs.Parts.{u32_part}
+use Rattle.lead_records.proofs.inputs.InputRecord.read.Goals as goal
+
+pub returns : goal.returns
+unfolding input_of
+returns c =
+    let b = c.args.bytes.now in
+    rw (
+      c.from_bytes.ensures,
+      c.judge.ensures,
+      c.contacts.ensures,
+      c.newest-heard.ensures,
+      c.from_bytes-amperes.ensures,
+      c.from_bytes-volts.ensures,
+      u32_part b 4,
+      u32_part b 8,
+      u32_part b 12,
+    )
