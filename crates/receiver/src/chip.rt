@@ -6,13 +6,12 @@ ghost use Rattle.receiver.specs.Chip.{powered_up, value_read, arrived, written, 
 
 use super::places::{FRAME_SIZE, MAILBOX_COUNT, RECEIVER_SIZE, Register, TURN};
 use super::status::{is_full, longest_held, with_full, without, without_one};
-use bytes::copy;
 
 pub(crate) fn power_up(receiver: &mut [u8])
     requires { length receiver.old ≡ receiver_size }
     ensures { receiver.new ≡ powered_up }
 {
-    copy(&[0; RECEIVER_SIZE], receiver);
+    receiver.copy_from_slice(&[0; RECEIVER_SIZE]);
 }
 
 pub(crate) fn value_read(receiver: &[u8], number: u32) -> u8
@@ -50,7 +49,7 @@ fn frame_at(s: &[u8], at: usize) -> [u8; FRAME_SIZE]
     ensures { result ≡ take frame_size (drop at s.now) }
 {
     let mut frame = [0; FRAME_SIZE];
-    copy(&s[at..at + FRAME_SIZE], &mut frame);
+    frame.copy_from_slice(&s[at..at + FRAME_SIZE]);
     frame
 }
 
@@ -65,7 +64,7 @@ pub(crate) fn arrive(receiver: &mut [u8], frame: &[u8])
         return;
     }
     let at = Register::MAILBOXES + FRAME_SIZE * (turn as usize);
-    copy(&frame_at(frame, 0), &mut receiver[at..at + FRAME_SIZE]);
+    receiver[at..at + FRAME_SIZE].copy_from_slice(&frame_at(frame, 0));
     receiver[Register::STATUS] = with_full(status, turn);
     receiver[TURN] = (turn + 1) % MAILBOX_COUNT;
 }
@@ -79,7 +78,7 @@ pub(crate) fn drain(receiver: &mut [u8], frame: &mut [u8])
     let mailbox = longest_held(status, receiver[TURN] % MAILBOX_COUNT);
     if mailbox < MAILBOX_COUNT {
         let at = Register::MAILBOXES + FRAME_SIZE * (mailbox as usize);
-        copy(&frame_at(receiver, at), frame);
+        frame.copy_from_slice(&frame_at(receiver, at));
         receiver[Register::STATUS] = without_one(status, mailbox);
     }
 }

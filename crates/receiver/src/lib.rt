@@ -1,5 +1,5 @@
 // The receive chip of the new board: registers as bytes, eight mailboxes used in turn, and the calls of the C host. Document 02, 2026-02.
-// It knows frames as 11 bytes. Rests on the promises of `bytes`, `little_endian` and `common`.
+// It knows frames as 11 bytes. Rests on the promises of `little_endian` and `common`.
 #![tactic(auto)]
 
 mod chip;
@@ -16,8 +16,7 @@ use places::{FRAME_SIZE, RECEIVER_SIZE, Register};
 // Every call returns 0, or the number of the first question that gets a no, and then nothing has changed.
 
 // Makes every register 0, and the first mailbox next.
-#[unsafe(no_mangle)]
-pub extern "C" fn receiver_power_up(receiver: &mut [u8]) -> u32
+pub fn receiver_power_up(receiver: &mut [u8]) -> u32
     ensures { ◌≡◌ {A = Answer} (record { number = result; receiver = receiver.new; lent = [] })
         (answer receiver.old power_up) }
 {
@@ -29,8 +28,7 @@ pub extern "C" fn receiver_power_up(receiver: &mut [u8]) -> u32
 }
 
 // Reads a register.
-#[unsafe(no_mangle)]
-pub extern "C" fn receiver_read(receiver: &[u8], number: u32, value: &mut [u8]) -> u32
+pub fn receiver_read(receiver: &[u8], number: u32, value: &mut [u8]) -> u32
     ensures { ◌≡◌ {A = Answer} (record { number = result; receiver = receiver.now; lent = value.new })
         (answer receiver.now (read number value.old)) }
 {
@@ -48,8 +46,7 @@ pub extern "C" fn receiver_read(receiver: &[u8], number: u32, value: &mut [u8]) 
 }
 
 // Writes a register.
-#[unsafe(no_mangle)]
-pub extern "C" fn receiver_write(receiver: &mut [u8], number: u32, value: u8) -> u32
+pub fn receiver_write(receiver: &mut [u8], number: u32, value: u8) -> u32
     ensures { ◌≡◌ {A = Answer} (record { number = result; receiver = receiver.new; lent = [] })
         (answer receiver.old (write number value)) }
 {
@@ -64,8 +61,7 @@ pub extern "C" fn receiver_write(receiver: &mut [u8], number: u32, value: u8) ->
 }
 
 // A frame arrives: it fills the turn's mailbox, or is lost where that one is full.
-#[unsafe(no_mangle)]
-pub extern "C" fn receiver_arrive(receiver: &mut [u8], frame: &[u8]) -> u32
+pub fn receiver_arrive(receiver: &mut [u8], frame: &[u8]) -> u32
     ensures { ◌≡◌ {A = Answer} (record { number = result; receiver = receiver.new; lent = [] })
         (answer receiver.old (arrive frame.now)) }
 {
@@ -80,8 +76,7 @@ pub extern "C" fn receiver_arrive(receiver: &mut [u8], frame: &[u8]) -> u32
 }
 
 // Hands the frame held longest on and empties its mailbox; with none held nothing changes.
-#[unsafe(no_mangle)]
-pub extern "C" fn receiver_drain(receiver: &mut [u8], frame: &mut [u8]) -> u32
+pub fn receiver_drain(receiver: &mut [u8], frame: &mut [u8]) -> u32
     ensures { ◌≡◌ {A = Answer} (record { number = result; receiver = receiver.new; lent = frame.new })
         (answer receiver.old (drain frame.old)) }
 {
@@ -96,8 +91,7 @@ pub extern "C" fn receiver_drain(receiver: &mut [u8], frame: &mut [u8]) -> u32
 }
 
 // Tells the interrupt line: 1 where it is up, else 0.
-#[unsafe(no_mangle)]
-pub extern "C" fn receiver_line(receiver: &[u8], level: &mut [u8]) -> u32
+pub fn receiver_line(receiver: &[u8], level: &mut [u8]) -> u32
     ensures { ◌≡◌ {A = Answer} (record { number = result; receiver = receiver.now; lent = level.new })
         (answer receiver.now (line level.old)) }
 {
