@@ -1,5 +1,4 @@
 -- `lead_records::states::is_spare_zero` meets its contract. By `four_zero`, of the spare bytes one by one. Assumes nothing.
-use borrow.Author.Rules.{rules}
 use mathlib.Core.Bool.{and_assoc, and-true}
 use mathlib.Core.List.{List}
 use Prim.Native.Nat.{ℕ, ◌-◌, ◌≤◌}

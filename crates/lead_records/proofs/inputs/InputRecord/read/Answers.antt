@@ -1,5 +1,4 @@
 -- `lead_records::inputs::InputRecord::read` meets its contract. By what it calls; a number read in its part is that of the whole. Assumes nothing.
-use borrow.Author.Rules.{rules}
 use Rattle.lead_records.specs.Inputs.{input_of}
 use Rattle.lead_records.proofs.Parts.{u32_part}
 use Rattle.lead_records.proofs.inputs.InputRecord.read.Goals as goal

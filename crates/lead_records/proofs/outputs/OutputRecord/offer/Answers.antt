@@ -1,5 +1,4 @@
 -- `lead_records::outputs::OutputRecord::offer` meets its contract. By what it calls. Assumes nothing.
-use borrow.Author.Rules.{rules}
 use Rattle.lead_records.proofs.outputs.OutputRecord.offer.Goals as goal
 
 pub returns : goal.returns

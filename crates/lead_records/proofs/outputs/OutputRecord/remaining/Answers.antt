@@ -1,5 +1,4 @@
 -- `lead_records::outputs::OutputRecord::remaining` meets its contract. By the phase. Assumes nothing.
-use borrow.Author.Rules.{rules}
 use borrow.Author.Tests.{ne_eqb}
 use Rattle.lead_records.specs.Outputs.{remaining_of}
 use Rattle.lead_records.proofs.outputs.OutputRecord.remaining.Goals as goal

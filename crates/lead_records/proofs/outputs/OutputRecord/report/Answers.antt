@@ -1,5 +1,4 @@
 -- `lead_records::outputs::OutputRecord::report` meets its contract. By what it calls. Assumes nothing.
-use borrow.Author.Rules.{rules}
 use Rattle.lead_records.specs.Outputs.{report_of}
 use Rattle.lead_records.proofs.outputs.OutputRecord.report.Goals as goal
 

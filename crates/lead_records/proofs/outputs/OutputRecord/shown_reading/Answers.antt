@@ -1,5 +1,4 @@
 -- `lead_records::outputs::OutputRecord::shown_reading` meets its contract. By the case of the reading. Assumes nothing.
-use borrow.Author.Rules.{rules}
 use Rattle.lead_records.proofs.outputs.OutputRecord.shown_reading.Goals as goal
 
 pub returns-in-Good : goal.returns-in-Good

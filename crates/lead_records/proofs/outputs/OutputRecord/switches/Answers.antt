@@ -1,5 +1,4 @@
 -- `lead_records::outputs::OutputRecord::switches` meets its contract. By the phase: which of the four ranges it stands in. Assumes nothing.
-use borrow.Author.Rules.{rules}
 use mathlib.Core.Path.{◌≡◌}
 use Prim.Native.Nat.{◌<◌}
 use native.Mathlib.Omega.{arith}

@@ -1,31 +1,20 @@
 -- `lead_records::outputs::OutputRecord::write` meets its contract. The bytes before the frames are copied, the frames are written behind them. Assumes nothing.
-use borrow.Author.Rules.{rules}
-use mathlib.Core.List.{List, [], ◌∷◌, append_assoc}
-use mathlib.Core.Path.{refl, ◌∙◌}
-use Prim.Native.Nat.{ℕ, ◌-◌}
+use mathlib.Core.List.{append_assoc}
+use mathlib.Core.Path.{ap, ◌∙◌}
+use lib.ListN.{length}
+use Prim.Native.Nat.{◌-◌}
 use Rattle.lead_records.specs.Outputs.{output_size, frames_size, shown_bytes, output_of}
-use Rattle.common.proofs.Copied.{copied_both}
+use Rattle.common.proofs.Copied.{written_both}
 use Rattle.lead_records.proofs.outputs.OutputRecord.write.Goals as goal
 
 pub returns : goal.returns
 unfolding shown_bytes output_of
 returns c =
     let a = c.args in
-    let q = c.write_frames.new.1.1.1.1.1.0 in
-    let s = a.lead in
-    let w : List ℕ =
-    s.stage.phase
-    ∷ s.stage.reason
-    ∷ s.command
-    ∷ c.switches.result
-    ∷ c.low_byte.result
-    ∷ c.high_byte.result
-    ∷ 0
-    ∷ 0
-    ∷ [] in
+    let q = c.write_frames.new.frames in
     written_both c.copy_from_slice.new.self a.output.now q (output_size - frames_size) (ap length c.copy_from_slice.ensures.after)
-    ∙ ?
     ∙ rw (
+      c.copy_from_slice.ensures.after,
       c.write_frames.ensures,
       c.high_byte.ensures,
       c.low_byte.ensures,

@@ -1,7 +1,5 @@
 -- `lead_records::outputs::OutputRecord::write_frames` meets its contract. Zeros, or both frames copied one behind the other. Assumes nothing.
-use mathlib.Core.List.{List, ◌++◌}
-use mathlib.Core.Path.{◌≡◌, ap, ◌∙◌}
-use Prim.Native.Nat.{ℕ}
+use mathlib.Core.Path.{ap, ◌∙◌}
 use lib.ListN.{length}
 use Rattle.frames.specs.Sent.{offer_bytes, report_bytes}
 use Rattle.lead_records.specs.Outputs.{frame_size}

@@ -1,5 +1,4 @@
 -- `lead_records::states::StateRecord::bytes` meets its contract. By the numbers that are written. Assumes nothing.
-use borrow.Author.Rules.{rules}
 use Rattle.lead_records.specs.States.{encode}
 use Rattle.lead_records.proofs.states.StateRecord.bytes.Goals as goal
 

@@ -1,5 +1,4 @@
 -- `lead_records::states::StateRecord::is_good` meets its contract. The test is the rule. Assumes nothing.
-use borrow.Author.Rules.{rules}
 use Rattle.lead_records.specs.States.{good_state}
 use Rattle.lead_records.proofs.states.StateRecord.is_good.Goals as goal
 

@@ -1,5 +1,4 @@
 -- `lead_records::states::StateRecord::read_car` meets its contract. By the numbers that are read. Assumes nothing.
-use borrow.Author.Rules.{rules}
 use Rattle.lead_records.specs.States.{decode}
 use Rattle.lead_records.proofs.states.StateRecord.read_car.Goals as goal
 
