@@ -5,6 +5,7 @@ pub mod Ticks
 pub mod ByLine
 pub mod Room
 pub mod Lines
+pub mod Feeds
 pub mod ReadOn
 pub mod LineBytes
 pub mod WholeInput

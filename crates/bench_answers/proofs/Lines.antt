@@ -7,7 +7,7 @@ use native.Mathlib.Omega.{arith}
 use lib.Dec.{eqb}
 use lib.ListN.{length, take, drop, length-take}
 use lib.Seq.{take_all}
-use Rattle.bytes.specs.Bytes.{index_of, index_after}
+use Rattle.bench_answers.specs.Ends.{index_of, index_after}
 use Rattle.bench_answers.specs.Rooms.{line_room}
 use Rattle.bench_answers.specs.Posts.{answer_to}
 use Rattle.bench_answers.specs.Pieces.{Going, Fed, printed_before, joins, fed}
@@ -46,7 +46,7 @@ pub fed_none :
     → length g.begun ≤ line_room
     → length s ≤ index_of 10 s
     → fed g s ≡ record { text = []; going = goes_on g s }
-unfolding index_of index_after
+unfolding index_of
 fed_none g [] h e = rw (joins_none g.begun h)
 fed_none g (c ∷ s) h e = go (eqb c 10) (fed_none (goes_on g (c ∷ [])) s (length_joins g.begun (c ∷ []))) e
   where
@@ -63,7 +63,7 @@ pub fed_some :
     → length g.begun ≤ line_room
     → index_of 10 s < length s
     → fed g s ≡ ended g (take (index_of 10 s) s) (drop (suc (index_of 10 s)) s)
-unfolding index_of index_after
+unfolding index_of
 fed_some g [] h e = absurd (omega arith)
 fed_some g (c ∷ s) h e = go (eqb c 10) (fed_some (goes_on g (c ∷ [])) s (length_joins g.begun (c ∷ []))) e
   where

@@ -7,7 +7,7 @@ use lib.ListN.{length, take, drop, length-append, length-take, length-drop, drop
 use lib.Seq.{length-take-le, take_all, take-length, take_at, take-append-add, drop-drop}
 use borrow.Author.Tests.{le-leb, ne_eqb}
 use Rattle.post.specs.Heads.{most_leads}
-use Rattle.bytes.specs.Bytes.{slice, index_of}
+use Rattle.bench_answers.specs.Ends.{index_of}
 use Rattle.bench_line.specs.Answers.{Written, written_of}
 use Rattle.bench_line.proofs.Filled.{written_fits}
 use Rattle.bench_answers.specs.Rooms.{line_room, answer_room}
@@ -22,24 +22,23 @@ use Rattle.bench_answers.proofs.Lines.{fed_none, fed_some}
 
 -- a part of the line put behind what is in its buffer, as far as it goes in
 pub added :
-    (begun count : ℕ) (part line mid rest behind : List ℕ)
+    (begun count : ℕ) (part line mid rest : List ℕ)
     → begun ≤ line_room
     → length line ≡ line_room
     → count ≡ min (length part) (line_room - begun)
-    → mid ≡ take (length (take count part)) (take count part) ++ behind
+    → mid ≡ take count part
     → take (begun + count) (take begun line ++ (mid ++ rest)) ≡ joins (take begun line) part
-added begun count part line mid rest behind h long e copied =
+added begun count part line mid rest h long e copied =
     let src : List ℕ = take count part in
     let all : length src ≡ count = length-take-le count part (omega arith) in
-    let put : mid ≡ src ++ behind = copied ∙ rw (take-length src) in
-    let first : take count mid ≡ src = rw put (take_at src behind count all) in
+    let first : take count mid ≡ src = rw copied (take_all count src (omega arith)) in
     let much : count ≡ min (line_room - begun) (length part) = omega arith in
     let goes : take (line_room - begun) part ≡ src = sym (as_much part (line_room - begun) much) in
     let line-is : length (take begun line) ≡ begun = length-take-le begun line (omega arith) in
     let room : begun + (line_room - begun) ≡ line_room = omega arith in
     let joined : take (length (take begun line) + (line_room - begun)) (take begun line ++ part) ≡ take begun line ++ src =
     rw (← goes) (take-append-add (take begun line) part (line_room - begun)) in
-    behind_taken line mid rest begun count (omega arith) (rw put (omega (arith, length-append src behind, all)))
+    behind_taken line mid rest begun count (omega arith) (rw copied (omega (arith, all)))
     ∙ ap (λ (s : List ℕ). take begun line ++ s) first
     ∙ sym (rw (line-is, room) at joined)
 
@@ -80,16 +79,12 @@ module _ (at : Progress) (piece line line' state text : List ℕ) (in-line : at.
 
   module _
       (end begun : ℕ)
-      (found : end ≡ at.read + index_of 10 (slice at.read (length piece) piece))
+      (found : end ≡ at.read + index_of 10 rest)
       (put : take begun line' ≡ joins (take at.begun line) (take (end - at.read) rest))
     where
       -- the answer to the line
       abbrev a : Response
       a = answer_to (kept_in at.leads state) (take begun line')
-
-      index : end ≡ at.read + index_of 10 rest
-      unfolding slice
-      index = found ∙ rw (take-length piece)
 
       pub at-end :
           end ≡ length piece
@@ -99,7 +94,7 @@ module _ (at : Progress) (piece line line' state text : List ℕ) (in-line : at.
       at-end e =
           let whole : take (end - at.read) rest ≡ rest = take_all (end - at.read) rest (omega (arith, rest_length)) in
           rw (
-            fed_none g rest short (omega (arith, rest_length, index)),
+            fed_none g rest short (omega (arith, rest_length, found)),
             drop_of_length-le piece {i = end} (omega arith),
             put,
             whole,
@@ -140,10 +135,10 @@ module _ (at : Progress) (piece line line' state text : List ℕ) (in-line : at.
               ≡ comes_to at piece line state text
           unfolding comes_to
           line-done e =
-              let k : index_of 10 rest ≡ end - at.read = omega (arith, index) in
+              let k : index_of 10 rest ≡ end - at.read = omega (arith, found) in
               let next : at.read + suc (end - at.read) ≡ end + 1 = omega arith in
               rw (
-                fed_some g rest short (omega (arith, rest_length, index)),
+                fed_some g rest short (omega (arith, rest_length, found)),
                 text-is,
                 ap (λ (l : Left). l.post) answered,
                 k,

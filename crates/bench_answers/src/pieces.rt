@@ -1,8 +1,9 @@
 // Pieces of input, cut into lines, and the lines' answers one behind the other.
-ghost use Rattle.std.specs.Prelude.{◌⊎◌, ◌≡◌, ◌+◌, ◌≤◌, ◌<◌, min, length, take};
+ghost use Rattle.std.specs.Prelude.{◌⊎◌, ◌≡◌, ◌+◌, ◌≤◌, ◌<◌, min, length, take, drop};
 ghost use Rattle.post.specs.Heads.{most_leads};
 ghost use Rattle.bench_answers.specs.Rooms.{line_room, answer_room};
 ghost use Rattle.bench_answers.specs.Pieces.{joins, fed, last_text};
+ghost use Rattle.bench_answers.specs.Ends.{index_of};
 ghost use Rattle.bench_answers.specs.Progress.{going_in, comes_to, HaveRoom, Fits};
 
 use super::answers::answer;
@@ -38,6 +39,21 @@ fn add(begun: usize, part: &[u8], line: &mut [u8]) -> usize
     begun + count
 }
 
+// Where the line ends that is read on from a place: at its line feed, or at the piece's end.
+fn line_end(piece: &[u8], from: usize) -> usize
+    requires { from ≤ length piece.now }
+    ensures { (result ≡ from + index_of 10 (drop from piece.now)) × (result ≤ length piece.now) }
+{
+    let mut i = from;
+    while i < piece.len() {
+        if piece[i] == LINE_FEED {
+            return i;
+        }
+        i += 1;
+    }
+    i
+}
+
 // Reads on to the end of a line, and answers it, or to the end of the piece, and keeps the line begun.
 fn next_line(
     at: Progress,
@@ -47,13 +63,13 @@ fn next_line(
     text: &mut [u8],
 ) -> Progress
     requires fits { Fits at piece.now text.old × HaveRoom line.old state.old }
-    requires read_in_bounds { (at.read < length piece.now) × (at.count + answer_room ≤ length text.old) }
-    ensures fits_2 { Fits result piece.now text.old × (at.read < result.read) }
-    ensures text_after { comes_to result piece.now line.new state.new text.new
+    requires goes_on { (at.read < length piece.now) × (at.count + answer_room ≤ length text.old) }
+    ensures fits { Fits result piece.now text.old × (at.read < result.read) }
+    ensures answered { comes_to result piece.now line.new state.new text.new
         ≡ comes_to at piece.now line.old state.old text.old }
 {
     let from = at.read;
-    let end = find(piece, from, piece.len(), LINE_FEED);
+    let end = line_end(piece, from);
     let begun = add(at.begun, &piece[from..end], line);
     let count = at.count;
     if end == piece.len() {
@@ -84,8 +100,8 @@ pub fn feed(
 ) -> Progress
     requires { (begun ≤ line_room) × (leads ≤ most_leads) × HaveRoom line.old state.old × (answer_room ≤ length text.old) }
     ensures fits { Fits result piece.now text.old × (min 1 (length piece.now) ≤ result.read) }
-    ensures fact { (result.read ≡ length piece.now) ⊎ (length text.old < result.count + answer_room) }
-    ensures text_after { comes_to result piece.now line.new state.new text.new
+    ensures to_end { (result.read ≡ length piece.now) ⊎ (length text.old < result.count + answer_room) }
+    ensures answered { comes_to result piece.now line.new state.new text.new
         ≡ fed (going_in leads begun state.old line.old) piece.now }
 {
     let mut at = Progress {

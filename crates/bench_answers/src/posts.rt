@@ -33,9 +33,9 @@ pub(crate) fn leads_of(number: u32) -> u8
 // Setup on the beginning of the buffer, as much of it as that many leads ask for.
 pub(crate) fn set_up(numbers: SetupNumbers, state: &mut [u8]) -> u32
     requires { length state.old ≡ state_room }
-    ensures fact { ◌≡◌ {A = SetUp} (record { number = result; state = take (state_length (min numbers.leads most_leads)) state.new })
+    ensures begun { ◌≡◌ {A = SetUp} (record { number = result; state = take (state_length (min numbers.leads most_leads)) state.new })
         (setup_of (head_from numbers) (take (state_length (min numbers.leads most_leads)) state.old)) }
-    ensures state_unchanged { drop (state_length (min numbers.leads most_leads)) state.new
+    ensures rest { drop (state_length (min numbers.leads most_leads)) state.new
         ≡ drop (state_length (min numbers.leads most_leads)) state.old }
 {
     let end = state_length(leads_of(numbers.leads));
@@ -58,8 +58,8 @@ pub(crate) fn tick_on(
     input: &[u8],
     output: &mut [u8],
 ) -> u32
-    requires leads_le_most_leads { leads ≤ most_leads }
-    requires state_len { (length state.old ≡ state_room) × (length output.old ≡ output_room) }
+    requires few { leads ≤ most_leads }
+    requires rooms { (length state.old ≡ state_room) × (length output.old ≡ output_room) }
     ensures { ◌≡◌ {A = Ticked}
         (record { number = result; state = take (state_length leads) state.new; output = take (output_length leads) output.new })
         (tick_of (take (state_length leads) state.old) (take (max (input_length leads) count) input.now)

@@ -1,0 +1,47 @@
+-- `bench_answers::pieces::feed` meets its contract. The loop's invariant: what the piece comes to is what is written, and then what its
+-- rest comes to. Assumes nothing.
+use borrow.Author.Rules.{rules}
+use mathlib.Core.Logic.{inl, inr}
+use mathlib.Core.Path.{◌≡◌, refl, ◌∙◌}
+use Prim.Native.Nat.{◌-◌, ◌≤◌, min}
+use native.Mathlib.Omega.{arith}
+use lib.ListN.{length}
+use Rattle.bench_answers.specs.Rooms.{answer_room}
+use Rattle.bench_answers.specs.Pieces.{fed}
+use Rattle.bench_answers.specs.Progress.{going_in, comes_to, HaveRoom, Fits}
+use Rattle.bench_answers.proofs.ReadOn.{begins}
+use Rattle.bench_answers.proofs.pieces.feed.Goals as goal
+
+pub loop-at-init : goal.loop-at-init
+loop-at-init c =
+    let a = c.args in (
+      (search rules, search rules, search rules, search rules),
+      (search rules, search rules),
+      refl,
+      search rules,
+      search rules,
+      begins a.begun a.leads a.piece.now a.line.now a.state.now a.text.now,
+    )
+
+pub loop-at-preserved : goal.loop-at-preserved
+loop-at-preserved c =
+    let n = c.next_line-at in
+    let k = c.loop-at in
+    let a =
+    c.args
+    in (
+      (search rules, search rules, search rules, search rules),
+      (search rules, search rules),
+      search rules,
+      search rules,
+      omega (arith, n.ensures.0.1),
+      ◌∙◌ {a = comes_to n.result a.piece.now n.new.1.1.0 n.new.1.1.1.0 n.new.1.1.1.1.0}
+          {b = comes_to k.at a.piece.now k.line k.state k.text} n.ensures.1 k.invariant.5,
+    )
+
+-- the text has no room for another answer, so something is written, and so something was read
+pub returns-then-text-at-lt-ANSWER : goal.returns-then-text-at-lt-ANSWER
+returns-then-text-at-lt-ANSWER c = ((search rules, search rules), (inr (search rules), c.loop-at.invariant.5))
+
+pub returns : goal.returns
+returns c = ((search rules, search rules), (inl (search rules), c.loop-at.invariant.5))
