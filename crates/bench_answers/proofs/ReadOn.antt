@@ -4,7 +4,7 @@ use mathlib.Core.Path.{◌≡◌, refl, sym, ap, ◌∙◌}
 use Prim.Native.Nat.{ℕ, suc, ◌+◌, ◌-◌, ◌≤◌, ◌<◌, min}
 use native.Mathlib.Omega.{arith}
 use lib.ListN.{length, take, drop, length-append, length-take, length-drop, drop_of_length-le}
-use lib.Seq.{length-take-le, take_all, take-length, take_at, take-append-add, drop-drop}
+use lib.Seq.{length-take-le, take_all, take_at, take-append-add, drop-drop}
 use borrow.Author.Tests.{le-leb, ne_eqb}
 use Rattle.post.specs.Heads.{most_leads}
 use Rattle.bench_answers.specs.Ends.{index_of}

@@ -1,5 +1,4 @@
 -- `bench_answers::answers::answer` meets its contract. Each kind of line has its answer. Assumes nothing.
-use borrow.Author.Rules.{rules}
 use mathlib.Core.Path.{refl}
 use Rattle.bench_answers.specs.Buffers.{kept_in}
 use Rattle.bench_answers.proofs.ByLine.{by_line_lem}

@@ -1,5 +1,4 @@
 -- `bench_answers::answers::answer_setup` meets its contract. A setup is taken, or it is refused and the buffer is as it was. Assumes nothing.
-use borrow.Author.Rules.{rules}
 use native.Mathlib.Omega.{arith}
 use Rattle.post.proofs.Returned.{setup_byte}
 use Rattle.bench_answers.specs.Buffers.{kept_in}
@@ -18,3 +17,6 @@ returns c =
     let a = c.args in
     setup_refused a.numbers a.state.now c.set_up-number.new.state (omega arith) c.set_up-number.ensures.begun a.leads a.text.now
     c.set_up-number.ensures.rest c.if-number-eq0.false c.write_answer-count.ensures
+
+pub overflow_cast-number : goal.overflow_cast-number
+overflow_cast-number c = omega (arith, setup_byte _ _ c.set_up-number.ensures.begun)

@@ -1,8 +1,5 @@
 -- `bench_answers::answers::answer_tick` meets its contract. There is no post, or the tick is done, or it is refused. Assumes nothing.
-use borrow.Author.Rules.{rules}
-use mathlib.Core.Path.{sym}
 use native.Mathlib.Omega.{arith}
-use lib.Seq.{length-take-le}
 use Rattle.post.proofs.Returned.{tick_byte}
 use Rattle.bench_answers.proofs.Ticks.{tick_unknown, tick_done, tick_refused}
 use Rattle.bench_answers.proofs.answers.answer_tick.Goals as goal
@@ -19,6 +16,9 @@ returns-then-number-eq0 c =
     tick_done a.leads a.count a.input.now a.state.now a.text.now c.if-leads-eq0.false (omega arith) c.tick_on-number.new.state
     c.tick_on-number.ensures c.if-number-eq0.true
     (rw (← c.output_length-end.ensures) c.write_answer-then-number-eq0.ensures)
+
+pub overflow_cast-number : goal.overflow_cast-number
+overflow_cast-number c = omega (arith, tick_byte _ _ _ c.tick_on-number.ensures)
 
 pub returns : goal.returns
 returns c =

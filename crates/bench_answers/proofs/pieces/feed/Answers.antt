@@ -2,13 +2,9 @@
 -- rest comes to. Assumes nothing.
 use borrow.Author.Rules.{rules}
 use mathlib.Core.Logic.{inl, inr}
-use mathlib.Core.Path.{◌≡◌, refl, ◌∙◌}
-use Prim.Native.Nat.{◌-◌, ◌≤◌, min}
+use mathlib.Core.Path.{refl, ◌∙◌}
 use native.Mathlib.Omega.{arith}
-use lib.ListN.{length}
-use Rattle.bench_answers.specs.Rooms.{answer_room}
-use Rattle.bench_answers.specs.Pieces.{fed}
-use Rattle.bench_answers.specs.Progress.{going_in, comes_to, HaveRoom, Fits}
+use Rattle.bench_answers.specs.Progress.{comes_to}
 use Rattle.bench_answers.proofs.ReadOn.{begins}
 use Rattle.bench_answers.proofs.pieces.feed.Goals as goal
 
@@ -34,14 +30,15 @@ loop-at-preserved c =
       (search rules, search rules),
       search rules,
       search rules,
-      omega (arith, n.ensures.0.1),
-      ◌∙◌ {a = comes_to n.result a.piece.now n.new.1.1.0 n.new.1.1.1.0 n.new.1.1.1.1.0}
-          {b = comes_to k.at a.piece.now k.line k.state k.text} n.ensures.1 k.invariant.5,
+      omega (arith, n.ensures.fits.1),
+      ◌∙◌ {a = comes_to n.result a.piece.now n.new.line n.new.state n.new.text}
+          {b = comes_to k.at a.piece.now k.line k.state k.text} n.ensures.answered k.invariant.5,
     )
 
 -- the text has no room for another answer, so something is written, and so something was read
 pub returns-then-text-at-lt-ANSWER : goal.returns-then-text-at-lt-ANSWER
-returns-then-text-at-lt-ANSWER c = ((search rules, search rules), (inr (search rules), c.loop-at.invariant.5))
+returns-then-text-at-lt-ANSWER c =
+    record { fits = (search rules, search rules); to_end = inr (search rules); answered = c.loop-at.invariant.5 }
 
 pub returns : goal.returns
-returns c = ((search rules, search rules), (inl (search rules), c.loop-at.invariant.5))
+returns c = record { fits = (search rules, search rules); to_end = inl (search rules); answered = c.loop-at.invariant.5 }

@@ -1,15 +1,11 @@
 -- `bench_answers::pieces::feed` meets its contract. The loop's invariant: what the piece comes to is what is written, and then what its
 -- rest comes to. Assumes nothing.
-use borrow.Author.Rules.{rules}
-use mathlib.Core.Logic.{inl, inr}
-use mathlib.Core.Path.{◌≡◌, refl, ◌∙◌}
+use mathlib.Core.Path.{◌≡◌}
 use Prim.Native.Nat.{◌-◌, ◌≤◌, min}
-use native.Mathlib.Omega.{arith}
 use lib.ListN.{length}
 use Rattle.bench_answers.specs.Rooms.{answer_room}
 use Rattle.bench_answers.specs.Pieces.{fed}
 use Rattle.bench_answers.specs.Progress.{going_in, comes_to, HaveRoom, Fits}
-use Rattle.bench_answers.proofs.ReadOn.{begins}
 use Rattle.bench_answers.proofs.pieces.feed.Given as goal
 
 abbrev pub invariant-loop-at : goal.invariant-loop-at

@@ -8,51 +8,59 @@ use lib.ListN.{length, take, drop, length-take, length-drop}
 use lib.Seq.{length-take-le}
 use Rattle.bench_answers.specs.Posts.{answer_to}
 use Rattle.bench_answers.specs.Buffers.{kept_in}
+use Rattle.bench_answers.specs.declared.pieces.Progress.{Progress}
 use Rattle.bench_answers.proofs.ReadOn.{written_within, at-end, line-answered}
 use Rattle.bench_answers.proofs.pieces.next_line.Goals as goal
 
 -- the text behind what was written, and how much of it an answer takes
-abbrev behind : tie.Start → List ℕ
-behind c = take (length c.args.text.now - c.args.at.count) (drop c.args.at.count c.args.text.now)
+module _ (at : Progress) (text : List ℕ) where
+  abbrev behind : List ℕ
+  behind = take (length text - at.count) (drop at.count text)
 
-space : (c : goal.Start) → length (behind c) ≡ length c.args.text.now - c.args.at.count
-space c =
-    let text = c.args.text.now in
-    omega (arith, length-take (length text - c.args.at.count) (drop c.args.at.count text), length-drop c.args.at.count text)
-
-within :
-    (c : goal.After-answer)
-    → c.answer-answered.result.count
-    ≤ length (behind c)
-within c =
-    let put = c.add-begun in
-    written_within (answer_to (kept_in c.args.at.leads c.args.state.now) (take put.result put.new.1.1.0)) (behind c)
-    c.answer-answered.ensures
+  space : length behind ≡ length text - at.count
+  space = omega (arith, length-take (length text - at.count) (drop at.count text), length-drop at.count text)
 
 pub returns-then-end-piece : goal.returns-then-end-piece
 returns-then-end-piece c =
     let a = c.args in
-    let put = c.add-begun in (
-      ((search rules, put.ensures.0, search rules, search rules), omega arith),
-      at-end a.at a.piece.now a.line.now put.new.1.1.0 a.state.now a.text.now (omega arith) (omega arith)
-          c.find.result put.result c.find.ensures.0 put.ensures.1 c.if-end-piece.true,
-    )
+    let put = c.add-begun in
+    record {
+      fits = ((search rules, put.ensures.0, search rules, search rules), omega arith);
+      answered = at-end a.at a.piece.now a.line.now put.new.line a.state.now a.text.now (omega arith) (omega arith)
+          c.line_end-end.result put.result c.line_end-end.ensures.0 put.ensures.1 c.if-end-piece.true;
+    }
 
 pub slice_bounds-answer-end-2 : goal.slice_bounds-answer-end-2
 slice_bounds-answer-end-2 c =
     sym (length-take-le c.add-begun.result c.add-begun.new.line (omega (arith, c.add-begun.ensures.0)))
 
+pub overflow_add-result-2 : goal.overflow_add-result-2
+overflow_add-result-2 c =
+    let put = c.add-begun in
+    let a = c.args in
+    let within =
+    written_within (answer_to (kept_in a.at.leads a.state.now) (take put.result put.new.line)) (behind a.at a.text.now)
+    c.answer-answered.ensures in
+    omega (arith, within, space a.at a.text.now)
+
 pub returns : goal.returns
 returns c =
     let put = c.add-begun in
-    let f = c.find in
+    let f = c.line_end-end in
     let a = c.args in
+    let done = c.answer-answered in
     let in-piece : f.result ≤ length a.piece.now = f.ensures.1 in
     let before : f.result < length a.piece.now = omega (arith, in-piece, c.if-end-piece.false) in
     let from : a.at.read ≤ f.result = omega (arith, f.ensures.0) in
+    let room = space a.at a.text.now in
+    let within =
+    written_within (answer_to (kept_in a.at.leads a.state.now) (take put.result put.new.line)) (behind a.at a.text.now) done.ensures in
     let left =
-    line-answered a.at a.piece.now a.line.now put.new.1.1.0 a.state.now a.text.now (omega arith) (omega arith)
-    f.result put.result f.ensures.0 put.ensures.1 c.answer-answered.result.count c.answer-answered.result.leads
-    c.answer-answered.new.state c.answer-answered.new.text (behind c) _ (omega (arith, space c)) (omega arith) (omega arith)
-    c.answer-answered.ensures before in
-    (((omega (arith, before), search rules, left.0, omega (arith, within c, space c)), omega (arith, from)), left.1)
+    line-answered a.at a.piece.now a.line.now put.new.line a.state.now a.text.now (omega arith) (omega arith)
+    f.result put.result f.ensures.0 put.ensures.1 done.result.count done.result.leads
+    done.new.state done.new.text (behind a.at a.text.now) _ (omega (arith, room)) (omega arith) (omega arith)
+    done.ensures before in
+    record {
+      fits = ((omega (arith, before), search rules, left.0, omega (arith, within, room)), omega (arith, from));
+      answered = left.1;
+    }

@@ -1,5 +1,4 @@
 -- `bench_answers::posts::set_up` meets its contract. The beginning of the buffer comes back as setup left it. Assumes nothing.
-use borrow.Author.Rules.{rules}
 use mathlib.Core.Path.{sym, ap, ◌∙◌}
 use native.Mathlib.Omega.{arith}
 use lib.Seq.{length-take-le}
@@ -18,8 +17,7 @@ returns c =
     let l = c.state_length-end in
     let few = c.leads_of.ensures in
     let a = c.args in
-    setup_front a.state.now c.setup.new.state (l.ensures ∙ ap state_length few)
-    (omega (arith, l.ensures, few))
-    c.state.given.0
-    (head_from a.numbers)
-    c.setup.ensures
+    let done =
+    setup_front a.state.now c.setup.new.state (l.ensures ∙ ap state_length few) (omega (arith, l.ensures, few)) (omega arith)
+    (head_from a.numbers) c.setup.ensures in
+    record { begun = done.0; rest = done.1 }

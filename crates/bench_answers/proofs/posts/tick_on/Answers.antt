@@ -1,5 +1,4 @@
 -- `bench_answers::posts::tick_on` meets its contract. The beginnings of the buffers come back as the tick left them. Assumes nothing.
-use borrow.Author.Rules.{rules}
 use mathlib.Core.Path.{◌≡◌, sym, ◌∙◌}
 use Prim.Native.Nat.{min, max}
 use native.Mathlib.Omega.{arith}
@@ -33,6 +32,6 @@ returns c =
     let a = c.args in
     let much : c.lesser-length.result ≡ min (max (input_length a.leads) a.count) (length a.input.now) =
     c.lesser-length.ensures ∙ rw (c.greater.ensures, c.input_length.ensures) in
-    tick_front a.state.now a.input.now a.output.now t.new.0 t.new.1.1.0 (max (input_length a.leads) a.count)
-    l.ensures (omega (arith, l.ensures)) c.state.given.0 much c.output_length-shown.ensures
-    (omega (arith, c.output_length-shown.ensures)) c.output.given.0 t.ensures
+    tick_front a.state.now a.input.now a.output.now t.new.state t.new.output (max (input_length a.leads) a.count)
+    l.ensures (omega (arith, l.ensures)) (omega arith) much c.output_length-shown.ensures
+    (omega (arith, c.output_length-shown.ensures)) (omega arith) t.ensures
