@@ -8,8 +8,8 @@ ghost use Rattle.bench.specs.Rooms.{piece_room, text_room, InBuffers};
 ghost use Rattle.bench_answers.specs.Progress.{HaveRoom};
 
 use bench_answers::{LINE, feed, finish};
-use libc::{STDIN_FILENO, STDOUT_FILENO};
 use post::MOST_STATE;
+use std::io::{Print, Read, Stdin, Stdout};
 
 // As much as is read at a time, and as much as is written.
 const PIECE: usize = 65536;
@@ -50,6 +50,7 @@ impl Carried {
 
 // Answers a piece of input: as many lines as the text has room for, then it is written, and so on to the piece's end.
 fn answer_piece(
+    out: Stdout,
     from: Carried,
     piece: &[u8],
     line: &mut [u8],
@@ -64,7 +65,7 @@ fn answer_piece(
     while read < piece.len() {
         let fed = feed(at.begun, at.leads, &piece[read..], line, state, text);
         let end = fed.count;
-        if !io::write_all(STDOUT_FILENO, &text[..end]) {
+        if out.write_all(&text[..end]).is_err() {
             return Carried::over();
         }
         read += fed.read;
@@ -79,22 +80,27 @@ fn answer_piece(
 
 // To the end of the input, piece by piece; whoever waits for answers gets them before the next read. As a proved loop has to end, it counts
 // down from a number that no input reaches. A failed read ends it all: the rest of the line begun is not known.
-fn answer_pieces(piece: &mut [u8], line: &mut [u8], state: &mut [u8], text: &mut [u8]) -> Carried
+fn answer_pieces(
+    mut input: Stdin,
+    out: Stdout,
+    piece: &mut [u8],
+    line: &mut [u8],
+    state: &mut [u8],
+    text: &mut [u8],
+) -> Carried
     requires { (length piece.old ≡ piece_room) × HaveRoom line.old state.old × (length text.old ≡ text_room) }
     ensures { InBuffers result }
 {
     let mut at = Carried::start();
     let mut pieces = u64::MAX;
     while 0 < pieces {
-        let got = libc::read(STDIN_FILENO, piece);
-        if got < 0 {
+        let Ok(end) = input.read(piece) else {
             return Carried::over();
-        }
-        let end = io::count(got, piece);
+        };
         if end == 0 {
             return at;
         }
-        at = answer_piece(at, &piece[..end], line, state, text);
+        at = answer_piece(out, at, &piece[..end], line, state, text);
         if at.failed {
             return at;
         }
@@ -103,19 +109,33 @@ fn answer_pieces(piece: &mut [u8], line: &mut [u8], state: &mut [u8], text: &mut
     at
 }
 
-// The last line may have no line feed. After a failed read or write none is begun.
-fn answer_all(piece: &mut [u8], line: &mut [u8], state: &mut [u8], text: &mut [u8])
+// The last line may have no line feed. After a failed read or write none is begun; whether the last write fails changes nothing any more.
+fn answer_all(
+    input: Stdin,
+    out: Stdout,
+    piece: &mut [u8],
+    line: &mut [u8],
+    state: &mut [u8],
+    text: &mut [u8],
+)
     requires { (length piece.old ≡ piece_room) × HaveRoom line.old state.old × (length text.old ≡ text_room) }
 {
-    let last = answer_pieces(piece, line, state, text);
+    let last = answer_pieces(input, out, piece, line, state, text);
     let end = finish(last.begun, last.leads, line, state, text);
-    io::write_all(STDOUT_FILENO, &text[..end]);
+    let _written = out.write_all(&text[..end]).is_ok();
 }
 
-fn main() {
+fn main(rt: HostRuntime) {
     let mut piece = [0u8; PIECE];
     let mut line = [0u8; LINE];
     let mut state = [0u8; MOST_STATE];
     let mut text = [0u8; TEXT];
-    answer_all(&mut piece, &mut line, &mut state, &mut text);
+    answer_all(
+        rt.stdin(),
+        rt.stdout(),
+        &mut piece,
+        &mut line,
+        &mut state,
+        &mut text,
+    );
 }
