@@ -1,7 +1,7 @@
 // Bytes as two capital hex digits.
 ghost use Rattle.std.specs.Prelude.{◌<◌};
 
-use libc::STDOUT_FILENO;
+use std::io;
 
 fn digit(value: u8) -> u8
     requires { value < 16 }
@@ -13,14 +13,15 @@ fn digit(value: u8) -> u8
     }
 }
 
-pub(crate) fn write_byte(byte: u8) {
-    io::write_all(STDOUT_FILENO, &[digit(byte / 16), digit(byte % 16)]);
+pub(crate) fn write_byte(rt: &impl Print, byte: u8) -> io::Result<()> {
+    rt.write_all(&[digit(byte / 16), digit(byte % 16)])
 }
 
-pub(crate) fn write_bytes(bytes: &[u8]) {
+pub(crate) fn write_bytes(rt: &impl Print, bytes: &[u8]) -> io::Result<()> {
     for i in 0..bytes.len() {
-        write_byte(bytes[i]);
+        write_byte(rt, bytes[i])?;
     }
+    Ok(())
 }
 
 // A call's number as a character.
@@ -33,8 +34,8 @@ pub(crate) fn digit_of(number: u32) -> u8 {
 }
 
 // The answer to a tick, as the bench program prints one that is done.
-pub(crate) fn write_done(number: u32, output: &[u8]) {
-    io::write_all(STDOUT_FILENO, &[digit_of(number), b'\t']);
-    write_bytes(output);
-    io::write_all(STDOUT_FILENO, &[b'\n']);
+pub(crate) fn write_done(rt: &impl Print, number: u32, output: &[u8]) -> io::Result<()> {
+    rt.write_all(&[digit_of(number), b'\t'])?;
+    write_bytes(rt, output)?;
+    rt.write_all(&[b'\n'])
 }

@@ -2,14 +2,16 @@
 // nothing; what it prints is held to the second implementation's answers.
 #![tactic(auto)]
 
+use std::io;
+
 mod hex;
 mod resistances;
 mod sessions;
 mod whole;
 
-fn main() {
-    whole::whole_case();
-    resistances::resistances();
-    sessions::stopped();
-    sessions::cut_off();
+fn main(rt: HostRuntime) -> io::Result<()> {
+    whole::whole_case(&rt)?;
+    resistances::resistances(&rt)?;
+    sessions::stopped(&rt)?;
+    sessions::cut_off(&rt)
 }

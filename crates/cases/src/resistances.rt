@@ -2,8 +2,8 @@
 // the resistance, which stay 0 where it is refused.
 use super::hex;
 use lead_records::StateRecord;
-use libc::STDOUT_FILENO;
 use post::{HEAD_SIZE, setup};
+use std::io;
 
 // 0.5, minus zero, 1, the next float above it, minus the smallest float, plus infinity, two NaNs.
 const RESISTANCES: [u32; 8] = [
@@ -15,18 +15,19 @@ const STATE: usize = HEAD_SIZE + StateRecord::SIZE;
 
 const RESISTANCE: usize = 4;
 
-fn set_up(resistance: u32) {
+fn set_up(rt: &impl Print, resistance: u32) -> io::Result<()> {
     let mut state = [0u8; STATE];
     let number = setup(1, 500, 125, resistance, 0, 0, &mut state);
-    io::write_all(STDOUT_FILENO, &[hex::digit_of(number), b'\t']);
+    rt.write_all(&[hex::digit_of(number), b'\t'])?;
     for i in RESISTANCE..RESISTANCE + 4 {
-        hex::write_byte(state[i]);
+        hex::write_byte(rt, state[i])?;
     }
-    io::write_all(STDOUT_FILENO, &[b'\n']);
+    rt.write_all(&[b'\n'])
 }
 
-pub(crate) fn resistances() {
+pub(crate) fn resistances(rt: &impl Print) -> io::Result<()> {
     for i in 0..8 {
-        set_up(RESISTANCES[i]);
+        set_up(rt, RESISTANCES[i])?;
     }
+    Ok(())
 }

@@ -3,9 +3,9 @@
 // charge, in the second the emergency button, and then the leads are started anew.
 use super::hex;
 use lead_records::{InputRecord, OutputRecord, StateRecord};
-use libc::STDOUT_FILENO;
 use little_endian::u32_bytes;
 use post::{HEAD_SIZE, LIMIT_SIZE, setup, tick};
+use std::io;
 
 const LEADS: u32 = 2;
 
@@ -140,16 +140,17 @@ fn post_input(step: Step) -> [u8; INPUT] {
     input
 }
 
-fn write_ticks(step: Step, state: &mut [u8]) {
+fn write_ticks(rt: &impl Print, step: Step, state: &mut [u8]) -> io::Result<()> {
     let input = post_input(step);
     let mut output = [0u8; OUTPUT];
     for i in 0..step.ticks {
         let number = tick(state, &input, &mut output);
-        hex::write_done(number, &output);
+        hex::write_done(rt, number, &output)?;
     }
+    Ok(())
 }
 
-fn write_setup(state: &mut [u8]) {
+fn write_setup(rt: &impl Print, state: &mut [u8]) -> io::Result<()> {
     let number = setup(
         LEADS,
         RATED_VOLTS,
@@ -159,28 +160,31 @@ fn write_setup(state: &mut [u8]) {
         METER_ERROR,
         state,
     );
-    io::write_all(STDOUT_FILENO, &[hex::digit_of(number), b'\n']);
+    rt.write_all(&[hex::digit_of(number), b'\n'])
 }
 
-fn charge(state: &mut [u8]) {
-    write_setup(state);
+fn charge(rt: &impl Print, state: &mut [u8]) -> io::Result<()> {
+    write_setup(rt, state)?;
     for at in 0..6 {
-        write_ticks(begin(at), state);
+        write_ticks(rt, begin(at), state)?;
     }
+    Ok(())
 }
 
-pub(crate) fn stopped() {
+pub(crate) fn stopped(rt: &impl Print) -> io::Result<()> {
     let mut state = [0u8; STATE];
-    charge(&mut state);
+    charge(rt, &mut state)?;
     for at in 0..4 {
-        write_ticks(end(at), &mut state);
+        write_ticks(rt, end(at), &mut state)?;
     }
+    Ok(())
 }
 
-pub(crate) fn cut_off() {
+pub(crate) fn cut_off(rt: &impl Print) -> io::Result<()> {
     let mut state = [0u8; STATE];
-    charge(&mut state);
+    charge(rt, &mut state)?;
     for at in 0..4 {
-        write_ticks(emergency(at), &mut state);
+        write_ticks(rt, emergency(at), &mut state)?;
     }
+    Ok(())
 }

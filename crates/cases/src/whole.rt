@@ -1,8 +1,8 @@
 // Document 01's whole case, through setup and tick: what its bench program prints for it.
 use super::hex;
 use lead_records::{InputRecord, OutputRecord, StateRecord};
-use libc::STDOUT_FILENO;
 use post::{HEAD_SIZE, LIMIT_SIZE, setup, tick};
+use std::io;
 
 // The numbers of the setup: one lead, 500 V, 125 A, no cable resistance, exact meters. Then the sizes of that post's state, input and output.
 const LEADS: u32 = 1;
@@ -26,7 +26,7 @@ const CONTACTS: usize = LIMIT_SIZE;
 
 const PLUG_AND_START: u8 = 33;
 
-pub(crate) fn whole_case() {
+pub(crate) fn whole_case(rt: &impl Print) -> io::Result<()> {
     let mut state = [0u8; STATE];
     let mut input = [0u8; INPUT];
     let mut output = [0u8; OUTPUT];
@@ -40,7 +40,7 @@ pub(crate) fn whole_case() {
         METER_ERROR,
         &mut state,
     );
-    io::write_all(STDOUT_FILENO, &[hex::digit_of(number), b'\n']);
+    rt.write_all(&[hex::digit_of(number), b'\n'])?;
     let number = tick(&mut state, &input, &mut output);
-    hex::write_done(number, &output);
+    hex::write_done(rt, number, &output)
 }
