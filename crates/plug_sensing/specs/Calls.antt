@@ -8,7 +8,7 @@ use Rattle.plug_sensing.specs.declared.Sensed.{Sensed}
 
 -- "The new part keeps one bool, false at first, as its own state": one byte, 0 for false and 1 for true.
 abbrev pub keeping : Bool → List ℕ
-keeping wasLowest = bit_value wasLowest ∷ []
+keeping was_lowest = bit_value was_lowest ∷ []
 
 abbrev pub fresh_state : List ℕ
 fresh_state = keeping false

@@ -35,7 +35,7 @@ pub record Sentences (values : List ℕ) (i : ℕ) : Type 0 where
   pub only_then : is_lowest (value_at values i) ≡ false → is_middle (value_at values (suc i)) ≡ true → closed_at values (suc i) ≡ false
   pub at_first : is_middle (value_at values zero) ≡ true → closed_at values zero ≡ false
   -- "a second in a row is open"
-  pub second_in_aRow : is_middle (value_at values i) ≡ true → is_middle (value_at values (suc i)) ≡ true → closed_at values (suc i) ≡ false
+  pub second_in_a_row : is_middle (value_at values i) ≡ true → is_middle (value_at values (suc i)) ≡ true → closed_at values (suc i) ≡ false
   -- "All else is open.", the table's first range among it
   pub all_else : is_lowest (value_at values i) ≡ false → is_middle (value_at values i) ≡ false → closed_at values i ≡ false
   pub twelve_volts : is_twelve_volts (value_at values i) ≡ true → closed_at values i ≡ false

@@ -17,7 +17,7 @@ is_lowest = between 3200 4800
 -- "The lowest range is closed. The middle range is closed only in the tick just after the lowest; a second in a row is open (200 ms in the
 -- source). All else is open." The bool that is kept tells whether the value before lay in the lowest range.
 unfoldable pub sensed : Bool → ℕ → Sensed
-sensed wasLowest millivolts = record {
-  closed = is_lowest millivolts || (is_middle millivolts && wasLowest);
+sensed was_lowest millivolts = record {
+  closed = is_lowest millivolts || (is_middle millivolts && was_lowest);
   lowest = is_lowest millivolts;
 }
