@@ -49,7 +49,7 @@ def snake(name):
     if not re.match(r"[a-z]", name):
         return name
     name = name.replace("-", "_")
-    return re.sub(r"(?<=[a-z0-9])([A-Z])", lambda m: "_" + m[1].lower(), name)
+    return re.sub(r"(?<=[a-z0-9])[A-Z]|(?<=[A-Z])[A-Z](?=[a-z])", lambda m: "_" + m[0].lower(), name).lower()
 
 
 def files(*endings):
