@@ -17,12 +17,17 @@
 //! `plug` senses a GB/T plug. It stands beside this list too: it knows none of these,
 //! and none of these knows it.
 //!
+//! `orders` takes the site manager's orders and finds a tick's allowance (2026-09). It
+//! stands beside this list as well: it knows none of these. None of these knows it
+//! yet, since `post`'s tick does not take orders so far.
+//!
 //! `inputs` puts lead inputs together by name, for tests and test programs.
 
 pub mod bench;
 pub mod frames;
 pub mod inputs;
 pub mod lead;
+pub mod orders;
 pub mod plug;
 pub mod post;
 pub mod readings;

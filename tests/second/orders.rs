@@ -2,9 +2,8 @@
 //! in, 1,024 bytes hold the orders in force, and with a tick's number they give the
 //! allowance that the tick uses.
 //!
-//! It knows numbers and bytes and nothing of leads, posts or frames. The tick reads
-//! the orders that it is lent and keeps nothing of them: the host holds the bytes,
-//! counts the ticks and hands in both.
+//! It knows numbers and bytes and nothing of leads, posts or frames: the host holds the
+//! bytes and counts the ticks. `post`'s tick does not take orders so far.
 //!
 //! Any bytes have an allowance, so nothing but lengths and texts is ever refused.
 
@@ -118,7 +117,8 @@ pub const REFUSED_FORM: u32 = 33;
 pub const REFUSED_USED_TWICE: u32 = 34;
 /// "A 65th line."
 pub const REFUSED_65TH_LINE: u32 = 35;
-/// "Those bytes not 1,024, asked before the text's lines, and by the tick after 9."
+/// "Those bytes not 1,024, asked before the text's lines, and by the tick after 9": so
+/// far by take_orders alone.
 pub const REFUSED_ORDERS_LENGTH: u32 = 43;
 
 /// The refusals of a text, in the order of asking: the bytes once, then "line by line

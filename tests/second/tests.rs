@@ -1,11 +1,12 @@
-//! Tests through the two calls, those of the receiver, that of the plug and the bench language. Tests
-//! of a single layer stand beside it.
+//! Tests through the two calls, those of the receiver, that of the plug, those of the orders and the
+//! bench language. Tests of a single layer stand beside it.
 //! Most are tables of cases: what is done, what comes out.
 
 mod bench;
 mod energy;
 mod meter_class;
 mod offered;
+mod orders;
 mod output;
 mod phases;
 mod plug;

@@ -19,6 +19,8 @@ mod c {
             bytes: usize,
         ) -> u32;
         pub fn tick(s: *mut u8, sn: usize, i: *const u8, n: usize, o: *mut u8, on: usize) -> u32;
+        pub fn take_orders(t: *const u8, tn: usize, o: *mut u8, on: usize) -> u32;
+        pub fn refused_line(t: *const u8, tn: usize) -> u32;
         pub fn plug_sense(s: *mut u8, sn: usize, value: u32, p: *mut u8, pn: usize) -> u32;
     }
 }
@@ -47,6 +49,21 @@ pub fn tick(state: &mut [u8], input: &mut [u8], output: &mut [u8]) -> u32 {
     // SAFETY: each pointer and length are those of a slice lent for the call; the three slices do
     // not overlap.
     unsafe { c::tick(s, state.len(), i, input.len(), o, output.len()) }
+}
+
+#[inline]
+pub fn take_orders(text: &mut [u8], orders: &mut [u8]) -> u32 {
+    let (t, o) = (text.as_mut_ptr(), orders.as_mut_ptr());
+    // SAFETY: each pointer and length are those of a slice lent for the call; the two slices do
+    // not overlap.
+    unsafe { c::take_orders(t, text.len(), o, orders.len()) }
+}
+
+#[inline]
+pub fn refused_line(text: &mut [u8]) -> u32 {
+    let (t, bytes) = (text.as_mut_ptr(), text.len());
+    // SAFETY: the pointer and the length are those of a slice lent for the call.
+    unsafe { c::refused_line(t, bytes) }
 }
 
 #[inline]
