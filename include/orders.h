@@ -1,8 +1,11 @@
 /*
  * Allowance orders of the site's energy desk, as the C host in the post calls them. Link with
  * liborders.a, an archive for x86-64 Linux. It stands by itself and knows nothing of leads: it
- * makes the bytes that the tick of post.h is lent. A host without a site manager needs neither;
- * post_no_orders() of post.h makes its bytes.
+ * makes the bytes that say which orders are in force. A host without a site manager does not need
+ * it.
+ *
+ * The tick of post.h does not take orders yet: it goes by the allowance of its input, whatever
+ * these bytes hold.
  *
  * An order says what the whole post may give out from one tick to another, in watts. Orders come as
  * text, one a line; docs/ORDERS.md is the desk's page on it:
@@ -20,17 +23,15 @@
  * they are. Tell the desk the number, and the line by refused_line_checked():
  *
  *     uint8_t orders[ORDERS_LENGTH];
- *     post_no_orders(orders);                                              (before any tick)
+ *     take_orders_checked(NULL, 0, orders, sizeof orders);                    (at first: none)
  *     ...
- *     uint32_t number = take_orders_checked(text, length, orders, sizeof orders); (between two)
+ *     uint32_t number = take_orders_checked(text, length, orders, sizeof orders); (between ticks)
  *     if (number != ORDERS_DONE)
  *         tell_the_desk(number, refused_line_checked(text, length));
- *     ...
- *     number = post_tick(..., orders, sizeof orders, tick_number);
  *
  * Bytes that are all 0 are no "no orders": they are 64 orders of 0 W for tick 0.
  *
- * How the host numbers its ticks is said in post.h. Of the orders that cover a tick, which are
+ * The host numbers its ticks from 0 at the post's setup. Of the orders that cover a tick, which are
  * those with first tick <= number <= last tick, the one with the highest order number counts,
  * wherever its line stands. The orders' ticks have 32 bits: from tick 4,294,967,296 on, after 13
  * years, none covers.
