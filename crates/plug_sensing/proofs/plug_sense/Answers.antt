@@ -1,7 +1,10 @@
 -- `plug_sensing::plug_sense` meets its contract. By its questions, one after the other. Assumes nothing.
 use borrow.Author.Tests.{eq-eqb, ne_eqb, le-leb, lt-leb}
 use mathlib.Core.Path.{◌∙◌}
+use Prim.Native.Nat.{◌≤◌}
 use native.Mathlib.Nat.{one-mul}
+use native.Mathlib.Omega.{arith}
+use lib.ListN.{get_or}
 use Rattle.common.proofs.Copied.{one_byte}
 use Rattle.plug_sensing.specs.All.{call_rules}
 use Rattle.plug_sensing.proofs.plug_sense.Goals as goal
@@ -22,10 +25,12 @@ returns-then-state-gt1 c =
 pub returns-then-plug-ne1 : goal.returns-then-plug-ne1
 unfolding call_rules
 returns-then-plug-ne1 c =
+    let state = c.args.state.now in
+    let most : get_or state 0 0 ≤ 1 = omega arith in
     rw (
       le-leb _ _ c.if-millivolts-gt-LARGEST_VALUE.false,
       eq-eqb _ _ c.if-state-ne1.false,
-      le-leb _ _ c.if-state-gt1.false,
+      le-leb (get_or state 0 0) 1 most,
       ne_eqb _ _ c.if-plug-ne1.true,
     )
 
@@ -33,10 +38,11 @@ pub returns : goal.returns
 unfolding call_rules
 returns c =
     let lent = c.args in
+    let most : get_or lent.state.now 0 0 ≤ 1 = omega arith in
     rw (
       le-leb _ _ c.if-millivolts-gt-LARGEST_VALUE.false,
       eq-eqb _ _ c.if-state-ne1.false,
-      le-leb _ _ c.if-state-gt1.false,
+      le-leb (get_or lent.state.now 0 0) 1 most,
       eq-eqb _ _ c.if-plug-ne1.false,
       one_byte lent.state.now c.flag.result c.if-state-ne1.false,
       one_byte lent.plug.now c.flag-2.result c.if-plug-ne1.false,
