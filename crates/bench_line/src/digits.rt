@@ -1,7 +1,7 @@
 // Digits as characters.
 ghost use Rattle.std.specs.Prelude.{◌≡◌, ◌<◌};
 ghost use Rattle.bench_line.specs.Digits.{digit_value};
-ghost use Rattle.bench_line.specs.Digits.{digit as Digits·digit};
+ghost use Rattle.bench_line.specs.Digits.{digit};
 
 // The value of a hex digit in either case, 16 for a character that is none.
 pub(crate) fn digit_value(character: u8) -> u8
@@ -18,7 +18,7 @@ pub(crate) fn digit_value(character: u8) -> u8
 // Capital.
 pub(crate) fn digit(value: u8) -> u8
     requires { value < 16 }
-    ensures { result ≡ Digits·digit value }
+    ensures { result ≡ digit value }
 {
     if value < 10 {
         b'0' + value

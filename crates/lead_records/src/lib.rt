@@ -1,4 +1,4 @@
-// One lead's bytes: its state (32), its input (104) and its output (24). Rests on lead, frames, readings, little_endian, common and bytes.
+// One lead's bytes: its state (32), its input (104) and its output (24). Rests on lead, frames, readings, little_endian and common.
 #![tactic(auto)]
 
 mod inputs;

@@ -11,7 +11,7 @@ use common::is_between;
 use little_endian::flag;
 
 // The table's "Voltage 1", in millivolts, by its names; both ends belong to a range.
-#[derive(Drop)]
+#[derive(Clone, Copy)]
 pub struct Voltage1;
 
 impl Voltage1 {
@@ -35,7 +35,7 @@ impl Voltage1 {
 pub const LARGEST_VALUE: u32 = 20000;
 
 // The numbers that the call returns: 0, or that of the first question that gets a no.
-#[derive(Drop)]
+#[derive(Clone, Copy)]
 pub struct Refusal;
 
 impl Refusal {
@@ -49,7 +49,7 @@ impl Refusal {
 }
 
 // What a value says: whether the plug is closed, and, for the value after it, whether this one lay in the lowest range.
-#[derive(Drop)]
+#[derive(Clone, Copy)]
 pub struct Sensed {
     pub closed: bool,
     pub lowest: bool,

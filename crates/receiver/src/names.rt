@@ -1,5 +1,5 @@
 // The numbers that the calls return: 0, or that of the first question that gets a no.
-#[derive(Drop)]
+#[derive(Clone, Copy)]
 pub struct Refusal;
 
 impl Refusal {

@@ -1,5 +1,5 @@
 // Where the chip's registers and its turn stand in the 93 bytes of a receiver.
-#[derive(Drop)]
+#[derive(Clone, Copy)]
 pub struct Register;
 
 impl Register {

@@ -41,7 +41,7 @@ fn in_order(wants: [u32; PLACES]) -> [u32; PLACES]
 }
 
 // What a step comes to.
-#[derive(Drop)]
+#[derive(Clone, Copy)]
 enum Step {
     // It meets a want in full, and carries on what is left. Only the claims look at which want it is.
     Met { want: u32, carried: u32 },
