@@ -54,8 +54,8 @@ enum Step {
 // these n + 1.
 fn take_step(want: u32, unmet: u32, carried: u32) -> Step
     requires { 0 < unmet }
-    ensures value { result ≡ step_of want unmet carried }
-    ensures by_index { (order : List ℕ) (n limit met left : ℕ)
+    ensures step { result ≡ step_of want unmet carried }
+    ensures carries_on { (order : List ℕ) (n limit met left : ℕ)
         → want ≡ want_of order n → carried ≡ carried_after n order limit → result ≡ Met met left → left ≡ carried_after (n + 1) order limit }
 {
     let part = carried / unmet;

@@ -40,7 +40,7 @@ returns-then-refusal-eq-NONE c =
     let a = c.args in
     let head = asked a.leads a.rated_volts a.rated_amperes a.resistance a.volts_error a.amperes_error in
     setup_done head a.state.now c.setup_refusal-refusal.ensures c.if-refusal-eq-NONE.true
-    (c.write_fresh.ensures ∙ ap (λ (h : Head). post_bytes h (λ c. fresh)) c.from_numbers.ensures)
+    (c.write_fresh.ensures ∙ ap (λ (h : Head). post_bytes h (λ k. fresh)) c.from_numbers.ensures)
 
 pub returns-else-refusal-eq-NONE : goal.returns-else-refusal-eq-NONE
 returns-else-refusal-eq-NONE c =

@@ -26,7 +26,7 @@ returns-in-Last c =
     sym
     (c.loop-place.invariant.1
     ∙ found_ends a.order places c.loop-place.place c.loop-place.carried a.limit c.well_formed.0.1.0.1 c.loop-place-test.true
-    c.if-want-gt0.true c.in-Last.level (sym c.in-Last.is ∙ c.take_step.ensures.value))
+    c.if-want-gt0.true c.in-Last.level (sym c.in-Last.is ∙ c.take_step.ensures.step))
 
 pub loop-place-preserved : goal.loop-place-preserved
 loop-place-preserved c =
@@ -36,8 +36,8 @@ loop-place-preserved c =
         omega arith,
         c.loop-place.invariant.1
             ∙ found_meets a.order places c.loop-place.place c.loop-place.carried a.limit c.well_formed.0.1.0.1 c.loop-place-test.true
-            w.if-want-gt0.true w.in-Met.want c.if-want-gt0.carried (sym (met w.in-Met.is w.carried-is) ∙ w.take_step.ensures.value),
-        w.take_step.ensures.by_index a.order c.loop-place.place a.limit w.in-Met.want c.if-want-gt0.carried refl c.loop-place.invariant.2
+            w.if-want-gt0.true w.in-Met.want c.if-want-gt0.carried (sym (met w.in-Met.is w.carried-is) ∙ w.take_step.ensures.step),
+        w.take_step.ensures.carries_on a.order c.loop-place.place a.limit w.in-Met.want c.if-want-gt0.carried refl c.loop-place.invariant.2
             (met w.in-Met.is w.carried-is),
       )
       | else-want-gt0 w ↦

@@ -9,14 +9,14 @@ pub returns-then-part-want : goal.returns-then-part-want
 returns-then-part-want c =
     let a = c.args in
     record {
-      value = sym (step_ends a.want a.unmet a.carried c.if-part-want.true);
-      by_index = λ order n limit met left next e x. absurd (last_not_met x);
+      step = sym (step_ends a.want a.unmet a.carried c.if-part-want.true);
+      carries_on = λ order n limit met left next e x. absurd (last_not_met x);
     }
 
 pub returns : goal.returns
 returns c =
     let a = c.args in
     record {
-      value = sym (step_meets a.want a.unmet a.carried (omega (arith, c.if-part-want.false)));
-      by_index = λ order n limit met left next e x. cc (carried_less n order limit);
+      step = sym (step_meets a.want a.unmet a.carried (omega (arith, c.if-part-want.false)));
+      carries_on = λ order n limit met left next e x. cc (carried_less n order limit);
     }

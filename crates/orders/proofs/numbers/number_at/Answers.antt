@@ -11,7 +11,7 @@ use mathlib.Core.Bool.{true, false}
 use Rattle.orders.proofs.Digits.{field_inside, plain_none, plain_one, plain_more, number_by, number_not, digits_place}
 use Rattle.orders.proofs.numbers.number_at.Goals as goal
 
--- the first a.at a.text.nowharacter of the field at a place
+-- the first character of the field at a place
 first : (at : ℕ) (text : List ℕ) → get_or (drop at text) 0 0 ≡ get_or text at 0
 first at text =
     let e : at + 0 ≡ at = omega arith in

@@ -20,7 +20,7 @@ loop-i-preserved c =
     let at : ℕ = head_size + state_size * i in
     let copied = c.copy_from_slice in (
       omega arith,
-      filled_written state_size (λ c. encode fresh) (λ c. encode_length _) head_size a.state.now i at (at + state_size - at) c.loop-i.state
+      filled_written state_size (λ k. encode fresh) (λ k. encode_length _) head_size a.state.now i at (at + state_size - at) c.loop-i.state
           copied.new.self (omega arith) (omega arith) refl (add-sub_cancel_left at state_size)
           (copied.ensures.after ∙ c.bytes-kept.ensures ∙ ap encode c.fresh.ensures) c.loop-i.invariant.1,
     )
@@ -31,5 +31,5 @@ shape_of-state c = c.loop-i.invariant.1.0
 pub returns : goal.returns
 returns c =
     let a = c.args in
-    filled_all state_size (λ c. encode fresh) (λ c. encode_length _) head_size a.state.now a.leads c.loop-i.i _
+    filled_all state_size (λ k. encode fresh) (λ k. encode_length _) head_size a.state.now a.leads c.loop-i.i _
     c.requires (omega arith) c.loop-i.invariant.1

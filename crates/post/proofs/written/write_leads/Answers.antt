@@ -31,11 +31,11 @@ loop-i-preserved c =
     let to : ℕ = output_size * i in
     let e = c.command-turn.ensures in (
       omega arith,
-      filled_written state_size (kept a.head.ratings a.level a.turns) (λ c. encode_length _) head_size a.state.now i at
+      filled_written state_size (kept a.head.ratings a.level a.turns) (λ k. encode_length _) head_size a.state.now i at
           (at + state_size - at) c.loop-i.state c.copy_from_slice.new.self (omega arith) (omega arith) refl
           (add-sub_cancel_left at state_size)
           (c.copy_from_slice.ensures.after ∙ c.bytes-kept.ensures ∙ ap (λ (t : Turn). encode t.lead) e) c.loop-i.invariant.1,
-      filled_written output_size (shown a.head.ratings a.level a.turns) (λ c. output_length_lem _ _ _ _ _) 0 a.output.now i to
+      filled_written output_size (shown a.head.ratings a.level a.turns) (λ k. output_length_lem _ _ _ _ _) 0 a.output.now i to
           (to + output_size - to) c.loop-i.output c.write.new.output (omega arith) (omega arith)
           (omega arith) (add-sub_cancel_left to output_size) (c.write.ensures ∙ ap (turn_shown a.head.ratings a.level) e) c.loop-i.invariant.2,
     )
@@ -51,8 +51,8 @@ returns c =
     let a = c.args in
     let p = c.requires in
     record {
-      state_after = filled_all state_size (kept a.head.ratings a.level a.turns) (λ c. encode_length _) head_size a.state.now a.head.leads
+      state_after = filled_all state_size (kept a.head.ratings a.level a.turns) (λ k. encode_length _) head_size a.state.now a.head.leads
           c.loop-i.i _ p.1 (omega arith) c.loop-i.invariant.1;
-      output_after = filled_all output_size (shown a.head.ratings a.level a.turns) (λ c. output_length_lem _ _ _ _ _) 0 a.output.now a.head.leads
+      output_after = filled_all output_size (shown a.head.ratings a.level a.turns) (λ k. output_length_lem _ _ _ _ _) 0 a.output.now a.head.leads
           c.loop-i.i _ (omega arith) (omega arith) c.loop-i.invariant.2;
     }
