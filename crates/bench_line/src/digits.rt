@@ -1,7 +1,6 @@
 // Digits as characters.
 ghost use Rattle.std.specs.Prelude.{◌≡◌, ◌<◌};
-ghost use Rattle.bench_line.specs.Digits.{digit_value};
-ghost use Rattle.bench_line.specs.Digits.{digit};
+ghost use Rattle.bench_line.specs.Digits.{digit_value, digit};
 
 // The value of a hex digit in either case, 16 for a character that is none.
 pub(crate) fn digit_value(character: u8) -> u8
