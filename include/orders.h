@@ -55,8 +55,8 @@
  * - Threads: the library has no memory of its own, so calls on different buffers may run at once.
  * - Time: every call ends, at the first line that is refused or at the text's end. A text of 64
  *   lines of the greatest length takes some microseconds.
- * - The archive is one ELF object for any x86-64 processor, with position-independent code and
- *   System V calls. From elsewhere it needs memcpy and memset.
+ * - The archive is one ELF object for an x86-64 processor of level v2 (SSE4.2, POPCNT) or above,
+ *   with position-independent code and System V calls. From elsewhere it needs memcpy and memset.
  */
 #ifndef ORDERS_H_INCLUDED
 #define ORDERS_H_INCLUDED

@@ -49,12 +49,12 @@
  *
  * What the call needs:
  * - Alignment: none.
- * - Stack: 8 bytes, the return address (seen in the archive: it pushes and calls nothing).
+ * - Stack: 16 bytes, the return address and one register (seen in the archive: it calls nothing).
  * - Threads: the library has no memory of its own, so calls on different states may run at once.
  *   Each lead with such a plug has a state of its own.
- * - Time: the call ends, after at most 26 instructions and no loop (seen in the archive).
- * - The archive is one ELF object for any x86-64 processor, with position-independent code and
- *   System V calls. From elsewhere it needs nothing.
+ * - Time: the call ends, after at most 38 instructions and no loop (seen in the archive).
+ * - The archive is one ELF object for an x86-64 processor of level v2 (SSE4.2, POPCNT) or above,
+ *   with position-independent code and System V calls. From elsewhere it needs nothing.
  */
 #ifndef PLUG_SENSING_H_INCLUDED
 #define PLUG_SENSING_H_INCLUDED

@@ -25,13 +25,14 @@
  *
  * What the calls need:
  * - Alignment: none. A buffer may begin at any address.
- * - Stack: less than 1 kB (measured with four leads: 696 bytes in a tick, 72 in setup). Where the
- *   C library is bound at its first call, that call takes more; 16 kB are enough for a thread.
+ * - Stack: less than 1 kB (seen in the archive: 808 bytes in a tick, 56 in setup, and what memcpy
+ *   and memset take). Where the C library is bound at its first call, that call takes more; 16 kB
+ *   are enough for a thread.
  * - Threads: the library has no memory of its own, so calls on different buffers may run at once.
  *   A host may keep several posts, each with its own state.
  * - Time: every call ends; a tick of four leads takes less than a microsecond.
- * - The archive is one ELF object for any x86-64 processor, with position-independent code and
- *   System V calls. From elsewhere it needs memcpy and memset.
+ * - The archive is one ELF object for an x86-64 processor of level v2 (SSE4.2, POPCNT) or above,
+ *   with position-independent code and System V calls. From elsewhere it needs memcpy and memset.
  */
 #ifndef POST_H_INCLUDED
 #define POST_H_INCLUDED

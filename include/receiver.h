@@ -35,12 +35,13 @@
  *
  * What the calls need:
  * - Alignment: none. A buffer may begin at any address.
- * - Stack: 8 bytes, the return address (seen in the archive: no call pushes or calls anything).
+ * - Stack: at most 16 bytes, the return address and, in a read, one register (seen in the archive:
+ *   no call calls anything).
  * - Threads: the library has no memory of its own, so calls on different buffers may run at once.
  *   A host may keep several receivers, such as one a lead.
  * - Time: every call ends, and takes less than a tenth of a microsecond.
- * - The archive is one ELF object for any x86-64 processor, with position-independent code and
- *   System V calls. From elsewhere it needs nothing.
+ * - The archive is one ELF object for an x86-64 processor of level v2 (SSE4.2, POPCNT) or above,
+ *   with position-independent code and System V calls. From elsewhere it needs nothing.
  */
 #ifndef RECEIVER_H_INCLUDED
 #define RECEIVER_H_INCLUDED

@@ -3,7 +3,7 @@
 
 It was run once, after the kit's own scripts. A name turns that a file of specs/ or proofs/ defines (a definition, a lemma, a field of a
 record): capitals inside it and dashes become underscores, as `wantOf` and `level-fits` become `want_of` and `level_fits`. Names that begin
-with a capital are facts and types and stay, and so do the names that Rattle makes of the code, such as a goal's. Whole words turn, in the code
+with a capital are facts and types and stay, and so do the names that Rattle makes of the code, such as a goal's, and the page of the port. Whole words turn, in the code
 of .antt files, in clauses and ghost lines of .rt files, in code spans of comments and of .md files, and in must-fail edits. --look writes nothing and says which
 names would fall together.
 """
@@ -59,7 +59,7 @@ def files(*endings):
                 dirs[:] = []
             dirs[:] = sorted(d for d in dirs if d not in ("out", ".git", "target"))
             for n in sorted(names):
-                if n.endswith(endings):
+                if n.endswith(endings) and n != "PORT.md":
                     yield os.path.normpath(os.path.join(folder, n))
 
 
@@ -78,6 +78,7 @@ def defined():
     found = collections.defaultdict(set)
     for path in files(".antt"):
         local = None  # the indent of a `where` of a clause
+        header = False  # a module's header goes on over lines
         for line in read(path).split("\n"):
             code = code_and_comment(line)[0].rstrip()
             if not code.strip():
@@ -85,9 +86,12 @@ def defined():
             indent = len(code) - len(code.lstrip())
             if local is not None and indent <= local:
                 local = None
+            if code.lstrip().startswith("module "):
+                header = not code.endswith(" where")
             if code.strip() == "where":
-                if local is None:
+                if local is None and not header:
                     local = indent
+                header = False
                 continue
             if local is not None:
                 continue

@@ -86,12 +86,12 @@ module _ (at : Progress) (piece line line' state text : List ℕ) (in-line : at.
       abbrev a : Response
       a = answer_to (kept_in at.leads state) (take begun line')
 
-      pub at-end :
+      pub at_end :
           end ≡ length piece
           → comes_to (record { read = end; begun = begun; leads = at.leads; count = at.count }) piece line' state text
           ≡ comes_to at piece line state text
       unfolding comes_to
-      at-end e =
+      at_end e =
           let whole : take (end - at.read) rest ≡ rest = take_all (end - at.read) rest (omega (arith, rest_length)) in
           rw (
             fed_none g rest short (omega (arith, rest_length, found)),
@@ -115,31 +115,31 @@ module _ (at : Progress) (piece line line' state text : List ℕ) (in-line : at.
           written : (n ≡ length a.text) × (n ≤ length mid) × (take n mid ≡ a.text)
           written = written_whole a.text dst fits (ap (λ (l : Left). l.written) answered)
 
-          line-leads : leads ≤ most_leads
+          line_leads : leads ≤ most_leads
           unfolding kept_in
-          line-leads =
+          line_leads =
               omega (
                 arith,
                 ap (λ (l : Left). l.post.leads) answered,
                 answer_few (kept_in at.leads state) few (take begun line'),
               )
 
-          text-is : take (at.count + n) (take at.count text ++ (mid ++ behind)) ≡ take at.count text ++ a.text
-          text-is =
+          text_is : take (at.count + n) (take at.count text ++ (mid ++ behind)) ≡ take at.count text ++ a.text
+          text_is =
               behind_taken text mid behind at.count n in-text written.1 ∙ ap (λ (s : List ℕ). take at.count text ++ s) written.2
 
-          line-done :
+          line_done :
               end < length piece
               → comes_to (record { read = end + 1; begun = 0; leads = leads; count = at.count + n }) piece line' state'
               (take at.count text ++ (mid ++ behind))
               ≡ comes_to at piece line state text
           unfolding comes_to
-          line-done e =
+          line_done e =
               let k : index_of 10 rest ≡ end - at.read = omega (arith, found) in
               let next : at.read + suc (end - at.read) ≡ end + 1 = omega arith in
               rw (
                 fed_some g rest short (omega (arith, rest_length, found)),
-                text-is,
+                text_is,
                 ap (λ (l : Left). l.post) answered,
                 k,
                 put,
@@ -148,13 +148,13 @@ module _ (at : Progress) (piece line line' state text : List ℕ) (in-line : at.
                 append_assoc,
               )
 
-          pub line-answered :
+          pub line_answered :
               end < length piece
               → (leads ≤ most_leads)
               × (comes_to (record { read = end + 1; begun = 0; leads = leads; count = at.count + n }) piece line' state'
               (take at.count text ++ (mid ++ behind))
               ≡ comes_to at piece line state text)
-          line-answered e = (line-leads, line-done e)
+          line_answered e = (line_leads, line_done e)
 
 -- before anything is read
 pub begins :

@@ -1,4 +1,4 @@
--- However an input is cut into pieces, its lines are answered one printedBefore the other. Assumes nothing.
+-- However an input is cut into pieces, its lines are answered one before the other. Assumes nothing.
 use mathlib.Core.Bool.{Bool, true, false, cond}
 use mathlib.Core.List.{List, [], ◌∷◌, ◌++◌, append_assoc, append-nil}
 use mathlib.Core.Path.{◌≡◌, refl}
@@ -14,7 +14,7 @@ use Rattle.bench_answers.specs.Posts.{Kept, answer_to, no_post}
 use Rattle.bench_answers.specs.Pieces.{Going, Fed, printed_before, joins, fed, last_text, printed, lines_from, answers_to}
 use Rattle.bench_answers.proofs.Lines.{take_twice}
 
--- pieces one printedBefore the other
+-- pieces one before the other
 pub in_pieces : (g : Going) (s t : List ℕ) → fed g (s ++ t) ≡ printed_before (fed g s).text (fed (fed g s).going t)
 in_pieces g [] t = refl
 in_pieces g (c ∷ s) t =

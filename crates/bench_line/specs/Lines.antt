@@ -42,16 +42,16 @@ decimal_last next (f ∷ g ∷ fs) = Other
 -- "`setup`, leads, volts, amperes, resistance bits", and 2026-08: "The bench program's setup line ends with the two errors … volts first". These
 -- are the fields behind the volts' error, the bits, amperes, volts, leads and the word.
 abbrev pub after_volts_error : ℕ → ℕ → ℕ → ℕ → ℕ → List (List ℕ) → Line
-after_volts_error leads volts amperes bits voltsError =
+after_volts_error leads volts amperes bits volts_error =
     decimal_last
-    (λ amperesError.
+    (λ amperes_error.
     Setup
     (record {
       leads = leads;
       volts = volts;
       amperes = amperes;
       resistance = bits;
-      errors = record { volts = voltsError; amperes = amperesError };
+      errors = record { volts = volts_error; amperes = amperes_error };
     }))
 
 abbrev pub after_bits : ℕ → ℕ → ℕ → ℕ → List (List ℕ) → Line

@@ -32,7 +32,7 @@ abbrev pub with_stage : Stage → Lead → Lead
 with_stage stage s = record { stage = stage; energy = s.energy; command = s.command; threshold = s.threshold; car = s.car }
 
 abbrev pub with_energy : ℕ → Lead → Lead
-with_energy wattTicks s = record { stage = s.stage; energy = wattTicks; command = s.command; threshold = s.threshold; car = s.car }
+with_energy watt_ticks s = record { stage = s.stage; energy = watt_ticks; command = s.command; threshold = s.threshold; car = s.car }
 
 abbrev pub with_command : ℕ → Lead → Lead
 with_command amperes s = record { stage = s.stage; energy = s.energy; command = amperes; threshold = s.threshold; car = s.car }

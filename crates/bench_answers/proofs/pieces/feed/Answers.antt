@@ -23,9 +23,7 @@ pub loop-at-preserved : goal.loop-at-preserved
 loop-at-preserved c =
     let n = c.next_line-at in
     let k = c.loop-at in
-    let a =
-    c.args
-    in (
+    let a = c.args in (
       (search rules, search rules, search rules, search rules),
       (search rules, search rules),
       search rules,

@@ -9,7 +9,7 @@ use lib.Seq.{length-take-le}
 use Rattle.bench_answers.specs.Posts.{answer_to}
 use Rattle.bench_answers.specs.Buffers.{kept_in}
 use Rattle.bench_answers.specs.declared.pieces.Progress.{Progress}
-use Rattle.bench_answers.proofs.ReadOn.{written_within, at-end, line-answered}
+use Rattle.bench_answers.proofs.ReadOn.{written_within, at_end, line_answered}
 use Rattle.bench_answers.proofs.pieces.next_line.Goals as goal
 
 -- the text behind what was written, and how much of it an answer takes
@@ -26,7 +26,7 @@ returns-then-end-piece c =
     let put = c.add-begun in
     record {
       fits = ((search rules, put.ensures.0, search rules, search rules), omega arith);
-      answered = at-end a.at a.piece.now a.line.now put.new.line a.state.now a.text.now (omega arith) (omega arith)
+      answered = at_end a.at a.piece.now a.line.now put.new.line a.state.now a.text.now (omega arith) (omega arith)
           c.line_end-end.result put.result c.line_end-end.ensures.0 put.ensures.1 c.if-end-piece.true;
     }
 
@@ -56,7 +56,7 @@ returns c =
     let within =
     written_within (answer_to (kept_in a.at.leads a.state.now) (take put.result put.new.line)) (behind a.at a.text.now) done.ensures in
     let left =
-    line-answered a.at a.piece.now a.line.now put.new.line a.state.now a.text.now (omega arith) (omega arith)
+    line_answered a.at a.piece.now a.line.now put.new.line a.state.now a.text.now (omega arith) (omega arith)
     f.result put.result f.ensures.0 put.ensures.1 done.result.count done.result.leads
     done.new.state done.new.text (behind a.at a.text.now) _ (omega (arith, room)) (omega arith) (omega arith)
     done.ensures before in
