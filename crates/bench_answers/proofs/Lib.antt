@@ -5,7 +5,6 @@ pub mod Ticks
 pub mod ByLine
 pub mod Room
 pub mod Lines
-pub mod Feeds
 pub mod ReadOn
 pub mod LineBytes
 pub mod WholeInput

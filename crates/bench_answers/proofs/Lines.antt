@@ -1,16 +1,22 @@
 -- Characters up to the first line feed, and to the end where there is none: what they come to. Assumes nothing.
-use mathlib.Core.Bool.{Bool, true, false, cond}
+use mathlib.Core.Bool.{Bool, true, false, cond, not}
 use mathlib.Core.List.{List, [], ◌∷◌, ◌++◌, append_assoc, append-nil}
-use mathlib.Core.Path.{◌≡◌, refl, ap, ◌∙◌}
-use Prim.Native.Nat.{ℕ, zero, suc, ◌≤◌, ◌<◌}
+use mathlib.Core.Path.{◌≡◌, refl, ap, subst, ◌∙◌}
+use Prim.Native.Nat.{ℕ, zero, suc, ◌+◌, ◌≤◌, ◌<◌}
 use native.Mathlib.Omega.{arith}
-use lib.Dec.{eqb}
+use lib.Dec.{ltb, eqb}
 use lib.ListN.{length, take, drop, length-take}
 use lib.Seq.{take_all}
-use Rattle.bench_answers.specs.Ends.{index_of, index_after}
+use borrow.Author.Tests.{ltb-true, ltb-false}
+use Rattle.std.specs.Prelude.{Option, Some, None, position}
+use Rattle.std.specs.List.{position_or_len}
 use Rattle.bench_answers.specs.Rooms.{line_room}
 use Rattle.bench_answers.specs.Posts.{answer_to}
 use Rattle.bench_answers.specs.Pieces.{Going, Fed, printed_before, joins, fed}
+
+-- how many characters stand before the first line feed
+abbrev pub to_line_feed : List ℕ → ℕ
+to_line_feed s = position_or_len (λ c. eqb c 10) s
 
 pub take_twice : (n : ℕ) (s t : List ℕ) → take n (take n s ++ t) ≡ take n (s ++ t)
 take_twice zero s t = refl
@@ -41,37 +47,52 @@ at_once g rest =
 abbrev goes_on : Going → List ℕ → Going
 goes_on g s = record { post = g.post; begun = joins g.begun s }
 
+-- what the library says of the first line feed
+module _ (s : List ℕ) where
+  abbrev pub Found : Option ℕ → Type 0
+  Found None = length s ≤ to_line_feed s
+  Found (Some n) = (n ≡ to_line_feed s) × (n < length s)
+
+  pub found_at : (r : Option ℕ) → position (λ c. eqb c 10) s ≡ r → Found r
+  found_at r e = subst Found e (go (ltb (to_line_feed s) (length s)) refl)
+    where
+      go : (b : Bool) → ltb (to_line_feed s) (length s) ≡ b → Found (cond b (Some (to_line_feed s)) None)
+      go true t = (refl, ltb-true (to_line_feed s) (length s) t)
+      go false t = ltb-false (to_line_feed s) (length s) t
+
 pub fed_none :
     (g : Going) (s : List ℕ)
     → length g.begun ≤ line_room
-    → length s ≤ index_of 10 s
+    → length s ≤ to_line_feed s
     → fed g s ≡ record { text = []; going = goes_on g s }
-unfolding index_of
 fed_none g [] h e = rw (joins_none g.begun h)
-fed_none g (c ∷ s) h e = go (eqb c 10) (fed_none (goes_on g (c ∷ [])) s (length_joins g.begun (c ∷ []))) e
+fed_none g (c ∷ s) h e =
+    go (eqb c 10) (1 + to_line_feed s) (omega arith) (fed_none (goes_on g (c ∷ [])) s (length_joins g.begun (c ∷ []))) e
   where
     go :
-        (b : Bool)
-        → (length s ≤ index_of 10 s → fed (goes_on g (c ∷ [])) s ≡ record { text = []; going = goes_on (goes_on g (c ∷ [])) s })
-        → length (c ∷ s) ≤ index_after b (index_of 10 s)
+        (b : Bool) (n : ℕ)
+        → n ≡ suc (to_line_feed s)
+        → (length s ≤ to_line_feed s → fed (goes_on g (c ∷ [])) s ≡ record { text = []; going = goes_on (goes_on g (c ∷ [])) s })
+        → length (c ∷ s) ≤ cond (not b) n 0
         → cond b (at_once g s) (fed (goes_on g (c ∷ [])) s) ≡ record { text = []; going = goes_on g (c ∷ s) }
-    go true r e = absurd (omega arith)
-    go false r e = r (omega arith) ∙ rw (joins_more g.begun (c ∷ []) s)
+    go true n q r e = absurd (omega arith)
+    go false n q r e = r (omega arith) ∙ rw (joins_more g.begun (c ∷ []) s)
 
 pub fed_some :
     (g : Going) (s : List ℕ)
     → length g.begun ≤ line_room
-    → index_of 10 s < length s
-    → fed g s ≡ ended g (take (index_of 10 s) s) (drop (suc (index_of 10 s)) s)
-unfolding index_of
+    → to_line_feed s < length s
+    → fed g s ≡ ended g (take (to_line_feed s) s) (drop (suc (to_line_feed s)) s)
 fed_some g [] h e = absurd (omega arith)
-fed_some g (c ∷ s) h e = go (eqb c 10) (fed_some (goes_on g (c ∷ [])) s (length_joins g.begun (c ∷ []))) e
+fed_some g (c ∷ s) h e =
+    go (eqb c 10) (1 + to_line_feed s) (omega arith) (fed_some (goes_on g (c ∷ [])) s (length_joins g.begun (c ∷ []))) e
   where
     go :
-        (b : Bool)
-        → (index_of 10 s < length s → fed (goes_on g (c ∷ [])) s ≡ ended (goes_on g (c ∷ [])) (take (index_of 10 s) s) (drop (suc (index_of 10 s)) s))
-        → index_after b (index_of 10 s) < length (c ∷ s)
+        (b : Bool) (n : ℕ)
+        → n ≡ suc (to_line_feed s)
+        → (to_line_feed s < length s → fed (goes_on g (c ∷ [])) s ≡ ended (goes_on g (c ∷ [])) (take (to_line_feed s) s) (drop (suc (to_line_feed s)) s))
+        → cond (not b) n 0 < length (c ∷ s)
         → cond b (at_once g s) (fed (goes_on g (c ∷ [])) s)
-        ≡ ended g (take (index_after b (index_of 10 s)) (c ∷ s)) (drop (suc (index_after b (index_of 10 s))) (c ∷ s))
-    go true r e = rw (joins_none g.begun h)
-    go false r e = r (omega arith) ∙ rw (joins_more g.begun (c ∷ []) (take (index_of 10 s) s))
+        ≡ ended g (take (cond (not b) n 0) (c ∷ s)) (drop (suc (cond (not b) n 0)) (c ∷ s))
+    go true n q r e = rw (joins_none g.begun h)
+    go false n q r e = rw q (r (omega arith) ∙ rw (joins_more g.begun (c ∷ []) (take (to_line_feed s) s)))

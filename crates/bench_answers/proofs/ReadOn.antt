@@ -3,11 +3,11 @@ use mathlib.Core.List.{List, ◌++◌, append_assoc}
 use mathlib.Core.Path.{◌≡◌, refl, sym, ap, ◌∙◌}
 use Prim.Native.Nat.{ℕ, suc, ◌+◌, ◌-◌, ◌≤◌, ◌<◌, min}
 use native.Mathlib.Omega.{arith}
+use lib.Dec.{eqb}
 use lib.ListN.{length, take, drop, length-append, length-take, length-drop, drop_of_length-le}
 use lib.Seq.{length-take-le, take_all, take_at, take-append-add, drop-drop}
 use borrow.Author.Tests.{le-leb, ne_eqb}
-use Rattle.post.specs.Heads.{most_leads}
-use Rattle.bench_answers.specs.Ends.{index_of}
+use Rattle.std.specs.Prelude.{Option, position}
 use Rattle.bench_line.specs.Answers.{Written, written_of}
 use Rattle.bench_line.proofs.Filled.{written_fits}
 use Rattle.bench_answers.specs.Rooms.{line_room, answer_room}
@@ -15,10 +15,11 @@ use Rattle.bench_answers.specs.Posts.{Kept, Response, answer_to}
 use Rattle.bench_answers.specs.Buffers.{kept_in, Left, leaves}
 use Rattle.bench_answers.specs.Pieces.{Going, joins, fed, last_text}
 use Rattle.bench_answers.specs.Progress.{going_in, comes_to}
+use Rattle.bench_answers.specs.declared.pieces.Carried.{Carried}
 use Rattle.bench_answers.specs.declared.pieces.Progress.{Progress}
 use Rattle.bench_answers.proofs.Fronts.{as_much, behind_taken}
-use Rattle.bench_answers.proofs.Room.{answer_few, answer_fits}
-use Rattle.bench_answers.proofs.Lines.{fed_none, fed_some}
+use Rattle.bench_answers.proofs.Room.{answer_fits}
+use Rattle.bench_answers.proofs.Lines.{to_line_feed, Found, found_at, fed_none, fed_some}
 
 -- a part of the line put behind what is in its buffer, as far as it goes in
 pub added :
@@ -64,123 +65,112 @@ written_whole t d {n = n} {mid = mid} h e =
     let put : mid ≡ t ++ behind = ap (λ (w : Written). w.text) done in
     (long, rw put (omega (arith, long, length-append t behind)), rw put (take_at t behind n (sym long)))
 
-module _ (at : Progress) (piece line line' state text : List ℕ) (in-line : at.begun ≤ line_room) (in-piece : at.read ≤ length piece) where
-  abbrev g : Going
-  g = going_in at.leads at.begun state line
+-- the rest of a piece, as the code cuts it out
+pub cut_out : (piece : List ℕ) (at : ℕ) → at ≤ length piece → take (length piece - at) (drop at piece) ≡ drop at piece
+cut_out piece at h = take_all (length piece - at) (drop at piece) (omega (arith, length-drop at piece))
 
-  abbrev rest : List ℕ
-  rest = drop at.read piece
+-- what the code has found there
+pub found_in :
+    (piece : List ℕ) (at : ℕ) {r q : Option ℕ}
+    → at ≤ length piece
+    → r ≡ position (λ c. eqb c 10) (take (length piece - at) (drop at piece))
+    → r ≡ q
+    → Found (drop at piece) q
+found_in piece at h e f = found_at (drop at piece) _ (rw (cut_out piece at h) at (sym e ∙ f))
 
-  rest_length : length rest ≡ length piece - at.read
-  rest_length = length-drop at.read piece
+module _
+    (carried : Carried) (at : Progress) (piece text : List ℕ) (in-piece : at.read ≤ length piece)
+  where
+    abbrev g : Going
+    g = going_in carried
 
-  short : length g.begun ≤ line_room
-  short = omega (arith, length-take at.begun line)
+    abbrev rest : List ℕ
+    rest = drop at.read piece
 
-  module _
-      (end begun : ℕ)
-      (found : end ≡ at.read + index_of 10 rest)
-      (put : take begun line' ≡ joins (take at.begun line) (take (end - at.read) rest))
-    where
-      -- the answer to the line
-      abbrev a : Response
-      a = answer_to (kept_in at.leads state) (take begun line')
+    short : length g.begun ≤ line_room
+    short = omega (arith, length-take carried.begun carried.line, carried.begun_fits)
 
-      pub at_end :
-          end ≡ length piece
-          → comes_to (record { read = end; begun = begun; leads = at.leads; count = at.count }) piece line' state text
-          ≡ comes_to at piece line state text
-      unfolding comes_to
-      at_end e =
-          let whole : take (end - at.read) rest ≡ rest = take_all (end - at.read) rest (omega (arith, rest_length)) in
-          rw (
-            fed_none g rest short (omega (arith, rest_length, found)),
-            drop_of_length-le piece {i = end} (omega arith),
-            put,
-            whole,
-          )
+    pub at_end :
+        (longer : Carried)
+        → longer.post ≡ carried.post
+        → length rest ≤ to_line_feed rest
+        → take longer.begun longer.line ≡ joins (take carried.begun carried.line) (take (length piece - at.read) rest)
+        → comes_to longer (record { read = length piece; count = at.count }) piece text ≡ comes_to carried at piece text
+    unfolding comes_to
+    at_end longer same none put =
+        rw (same, fed_none g rest short none, drop_of_length-le piece {i = length piece} (omega arith), put, cut_out piece at.read in-piece)
 
-      module _
-          (n leads : ℕ) (state' mid dst behind : List ℕ)
-          (room : answer_room ≤ length dst)
-          (in-text : at.count ≤ length text)
-          (few : at.leads ≤ most_leads)
-          (answered : ◌≡◌ {A = Left} (record { post = kept_in leads state'; written = record { count = n; text = mid } })
-          (leaves (answer_to (kept_in at.leads state) (take begun line')) dst))
-        where
-          fits : length a.text ≤ length dst
-          unfolding kept_in
-          fits = omega (arith, answer_fits (kept_in at.leads state) few (take begun line'), room)
+    module _
+        (line : List ℕ) (n begun : ℕ)
+        (found : n ≡ to_line_feed rest)
+        (before : n < length rest)
+        (put : take begun line ≡ joins (take carried.begun carried.line) (take n rest))
+      where
+        -- the answer to the line
+        abbrev a : Response
+        a = answer_to (kept_in carried.post.leads carried.post.state) (take begun line)
 
-          written : (n ≡ length a.text) × (n ≤ length mid) × (take n mid ≡ a.text)
-          written = written_whole a.text dst fits (ap (λ (l : Left). l.written) answered)
+        module _
+            (left : Carried) (none : left.begun ≡ 0) (count : ℕ) (mid dst behind : List ℕ)
+            (room : answer_room ≤ length dst)
+            (in-text : at.count ≤ length text)
+            (answered : ◌≡◌ {A = Left}
+            (record { post = kept_in left.post.leads left.post.state; written = record { count = count; text = mid } })
+            (leaves (answer_to (kept_in carried.post.leads carried.post.state) (take begun line)) dst))
+          where
+            fits : length a.text ≤ length dst
+            unfolding kept_in
+            fits = omega (arith, answer_fits (kept_in carried.post.leads carried.post.state) carried.post.few (take begun line), room)
 
-          line_leads : leads ≤ most_leads
-          unfolding kept_in
-          line_leads =
-              omega (
-                arith,
-                ap (λ (l : Left). l.post.leads) answered,
-                answer_few (kept_in at.leads state) few (take begun line'),
-              )
+            written : (count ≡ length a.text) × (count ≤ length mid) × (take count mid ≡ a.text)
+            written = written_whole a.text dst fits (ap (λ (l : Left). l.written) answered)
 
-          text_is : take (at.count + n) (take at.count text ++ (mid ++ behind)) ≡ take at.count text ++ a.text
-          text_is =
-              behind_taken text mid behind at.count n in-text written.1 ∙ ap (λ (s : List ℕ). take at.count text ++ s) written.2
+            text_is : take (at.count + count) (take at.count text ++ (mid ++ behind)) ≡ take at.count text ++ a.text
+            text_is =
+                behind_taken text mid behind at.count count in-text written.1 ∙ ap (λ (s : List ℕ). take at.count text ++ s) written.2
 
-          line_done :
-              end < length piece
-              → comes_to (record { read = end + 1; begun = 0; leads = leads; count = at.count + n }) piece line' state'
-              (take at.count text ++ (mid ++ behind))
-              ≡ comes_to at piece line state text
-          unfolding comes_to
-          line_done e =
-              let k : index_of 10 rest ≡ end - at.read = omega (arith, found) in
-              let next : at.read + suc (end - at.read) ≡ end + 1 = omega arith in
-              rw (
-                fed_some g rest short (omega (arith, rest_length, found)),
-                text_is,
-                ap (λ (l : Left). l.post) answered,
-                k,
-                put,
-                drop-drop (suc (end - at.read)) at.read piece,
-                next,
-                append_assoc,
-              )
-
-          pub line_answered :
-              end < length piece
-              → (leads ≤ most_leads)
-              × (comes_to (record { read = end + 1; begun = 0; leads = leads; count = at.count + n }) piece line' state'
-              (take at.count text ++ (mid ++ behind))
-              ≡ comes_to at piece line state text)
-          line_answered e = (line_leads, line_done e)
+            pub line_answered :
+                comes_to left (record { read = at.read + n + 1; count = at.count + count }) piece (take at.count text ++ (mid ++ behind))
+                ≡ comes_to carried at piece text
+            unfolding comes_to
+            line_answered =
+                let next : at.read + suc n ≡ at.read + n + 1 = omega arith in
+                rw (
+                  none,
+                  fed_some g rest short (omega (arith, before, found)),
+                  text_is,
+                  ap (λ (l : Left). l.post) answered,
+                  ← found,
+                  put,
+                  drop-drop (suc n) at.read piece,
+                  next,
+                  append_assoc,
+                )
 
 -- before anything is read
 pub begins :
-    (begun leads : ℕ) (piece line state text : List ℕ)
-    → comes_to (record { read = 0; begun = begun; leads = leads; count = 0 }) piece line state text ≡ fed (going_in leads begun state line) piece
+    (carried : Carried) (piece text : List ℕ) → comes_to carried (record { read = 0; count = 0 }) piece text ≡ fed (going_in carried) piece
 unfolding comes_to
-begins begun leads piece line state text = refl
+begins carried piece text = refl
 
 -- the last line
-pub last_none : (leads begun : ℕ) (state line text : List ℕ) → begun ≡ 0 → take 0 text ≡ last_text (going_in leads begun state line)
+pub last_none : (carried : Carried) (text : List ℕ) → carried.begun ≡ 0 → take 0 text ≡ last_text (going_in carried)
 unfolding last_text
-last_none leads begun state line text e = rw e
+last_none carried text e = rw e
 
 pub last_answered :
-    (leads begun : ℕ) (state line text : List ℕ) {n : ℕ} {post : Kept} {mid : List ℕ}
-    → (begun ≡ 0 → ⊥)
-    → begun ≤ length line
-    → leads ≤ most_leads
+    (carried : Carried) (text : List ℕ) {n : ℕ} {post : Kept} {mid : List ℕ}
+    → (carried.begun ≡ 0 → ⊥)
+    → carried.begun ≤ length carried.line
     → answer_room ≤ length text
     → ◌≡◌ {A = Left} (record { post = post; written = record { count = n; text = mid } })
-    (leaves (answer_to (kept_in leads state) (take begun line)) text)
-    → (n ≤ length text) × (take n mid ≡ last_text (going_in leads begun state line))
+    (leaves (answer_to (kept_in carried.post.leads carried.post.state) (take carried.begun carried.line)) text)
+    → (n ≤ length text) × (take n mid ≡ last_text (going_in carried))
 unfolding last_text kept_in
-last_answered leads begun state line text {n = n} some h few room answered =
-    let t : List ℕ = (answer_to (kept_in leads state) (take begun line)).text in
-    let fits : length t ≤ length text = omega (arith, answer_fits (kept_in leads state) few (take begun line), room) in
+last_answered carried text {n = n} some h room answered =
+    let line : List ℕ = take carried.begun carried.line in
+    let t : List ℕ = (answer_to (kept_in carried.post.leads carried.post.state) line).text in
+    let fits : length t ≤ length text = omega (arith, answer_fits (kept_in carried.post.leads carried.post.state) carried.post.few line, room) in
     let whole = written_whole t text fits (ap (λ (l : Left). l.written) answered) in
-    let long : length (take begun line) ≡ begun = length-take-le begun line h in
-    (omega (arith, whole.0, fits), rw (ne_eqb (length (take begun line)) 0 (λ e. some (sym long ∙ e))) whole.2)
+    let long : length line ≡ carried.begun = length-take-le carried.begun carried.line h in
+    (omega (arith, whole.0, fits), rw (ne_eqb (length line) 0 (λ e. some (sym long ∙ e))) whole.2)

@@ -1,6 +1,6 @@
 -- What a setup line comes to, by what setup made of the beginning of the buffer. Assumes nothing.
 use mathlib.Core.Bool.{Bool, true, false}
-use mathlib.Core.List.{List, []}
+use mathlib.Core.List.{List}
 use mathlib.Core.Path.{◌≡◌, refl, sym, ap, ◌∙◌}
 use Prim.Native.Nat.{ℕ, zero, suc, ◌≤◌, min}
 use native.Mathlib.Omega.{arith}
@@ -18,8 +18,7 @@ use Rattle.post.specs.Calls.{SetUp, setup_of}
 use Rattle.post.specs.declared.head.Head.{Head}
 use Rattle.setup_numbers.specs.declared.SetupNumbers.{SetupNumbers}
 use Rattle.post.proofs.Taken.{head_met, setup_head}
-use Rattle.bench_line.specs.Answers.{Written, written_of, answer_text}
-use Rattle.bench_line.specs.declared.answers.Answer.TheVariants.{Returned}
+use Rattle.bench_line.specs.Answers.{Written, written_of, returned_text}
 use Rattle.bench_answers.specs.Rooms.{state_room}
 use Rattle.bench_answers.specs.Posts.{Kept, zeros, after_setup, answer_setup}
 use Rattle.bench_answers.specs.Buffers.{kept_in, Left, leaves}
@@ -105,7 +104,7 @@ module _ (numbers : SetupNumbers) (d d' : List ℕ) (room : length d ≡ state_r
         (kept : Kept) {m : ℕ} {w : Written} (text : List ℕ)
         → r ≡ 0
         → m ≡ few numbers
-        → w ≡ written_of (answer_text (Returned r) []) text
+        → w ≡ written_of (returned_text r) text
         → ◌≡◌ {A = Left} (record { post = kept_in m d'; written = w }) (leaves (answer_setup kept numbers) text)
     unfolding kept_in
     setup_taken kept {m = m} text z e written =
@@ -117,7 +116,7 @@ module _ (numbers : SetupNumbers) (d d' : List ℕ) (room : length d ≡ state_r
         (leads : ℕ) {w : Written} (text : List ℕ)
         → drop end d' ≡ drop end d
         → (r ≡ 0 → ⊥)
-        → w ≡ written_of (answer_text (Returned r) []) text
+        → w ≡ written_of (returned_text r) text
         → ◌≡◌ {A = Left} (record { post = kept_in leads d'; written = w }) (leaves (answer_setup (kept_in leads d) numbers) text)
     setup_refused leads text behind n written =
         let same : d' ≡ d =

@@ -1,5 +1,5 @@
 -- What a tick line comes to, by what the tick made of the beginnings of the buffers. Assumes nothing.
-use mathlib.Core.List.{List, [], ◌++◌}
+use mathlib.Core.List.{List, ◌++◌}
 use mathlib.Core.Path.{◌≡◌, ◌∙◌}
 use Prim.Native.Nat.{ℕ, ◌+◌, ◌-◌, ◌≤◌, max}
 use native.Mathlib.Omega.{arith}
@@ -8,8 +8,7 @@ use lib.Seq.{take_at}
 use borrow.Author.Tests.{ne_eqb}
 use Rattle.post.specs.Heads.{most_leads, state_length, input_length, output_length}
 use Rattle.post.specs.Calls.{Ticked, tick_of}
-use Rattle.bench_line.specs.Answers.{Written, written_of, answer_text}
-use Rattle.bench_line.specs.declared.answers.Answer.TheVariants.{Unknown, Returned, Done}
+use Rattle.bench_line.specs.Answers.{Written, written_of, returned_text, done_text, unknown_text}
 use Rattle.bench_answers.specs.Rooms.{output_room}
 use Rattle.bench_answers.specs.Posts.{zeros, answer_tick}
 use Rattle.bench_answers.specs.Buffers.{kept_in, Left, leaves}
@@ -25,7 +24,7 @@ module _ (leads count : ℕ) (input d text : List ℕ) where
   pub tick_unknown :
       {w : Written}
       → leads ≡ 0
-      → w ≡ written_of (answer_text Unknown []) text
+      → w ≡ written_of unknown_text text
       → ◌≡◌ {A = Left} (record { post = kept_in leads d; written = w }) (leaves (answer_tick (kept_in leads d) count input) text)
   unfolding answer_tick kept_in
   tick_unknown z written = rw (z, written)
@@ -42,7 +41,7 @@ module _ (leads count : ℕ) (input d text : List ℕ) where
       pub tick_done :
           {w : Written}
           → r ≡ 0
-          → w ≡ written_of (answer_text Done shown) text
+          → w ≡ written_of (done_text shown) text
           → ◌≡◌ {A = Left} (record { post = kept_in leads d'; written = w }) (leaves (answer_tick (kept_in leads d) count input) text)
       unfolding answer_tick kept_in
       tick_done z written = rw (ne_eqb leads 0 some, ← ticked, z, written)
@@ -50,7 +49,7 @@ module _ (leads count : ℕ) (input d text : List ℕ) where
       pub tick_refused :
           {w : Written}
           → (r ≡ 0 → ⊥)
-          → w ≡ written_of (answer_text (Returned r) []) text
+          → w ≡ written_of (returned_text r) text
           → ◌≡◌ {A = Left} (record { post = kept_in leads d'; written = w }) (leaves (answer_tick (kept_in leads d) count input) text)
       unfolding answer_tick kept_in
       tick_refused n written = rw (ne_eqb leads 0 some, ← ticked, ne_eqb r 0 n, written)

@@ -4,4 +4,3 @@ pub mod Posts
 pub mod Buffers
 pub mod Pieces
 pub mod Progress
-pub mod Ends

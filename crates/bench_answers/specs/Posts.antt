@@ -1,13 +1,12 @@
 -- Document 01, 'Bench program': what a line comes to, by the post kept so far. Definitions only.
-use Rattle.std.specs.Prelude.{cond, List, [], ℕ, max, eqb, take, replicate}
+use Rattle.std.specs.Prelude.{Option, Some, None, cond, List, [], ℕ, max, eqb, take, replicate}
 use Rattle.post.specs.Heads.{state_length, input_length, output_length, head_from}
 use Rattle.post.specs.Calls.{SetUp, setup_of, Ticked, tick_of}
 use Rattle.setup_numbers.specs.declared.SetupNumbers.{SetupNumbers}
 use Rattle.bench_line.specs.Lines.{Parsed, parsed_of}
-use Rattle.bench_line.specs.Answers.{answer_text}
+use Rattle.bench_line.specs.Answers.{returned_text, done_text, unknown_text}
 use Rattle.bench_line.specs.declared.lines.Line.{Line}
-use Rattle.bench_line.specs.declared.lines.Line.TheVariants.{Setup, Tick, Other}
-use Rattle.bench_line.specs.declared.answers.Answer.TheVariants.{Unknown, Returned, Done}
+use Rattle.bench_line.specs.declared.lines.Line.TheVariants.{Setup, Tick}
 use Rattle.bench_answers.specs.Rooms.{input_room}
 
 -- the post kept from line to line: how many leads it has, 0 before an accepted setup, and the bytes of its state
@@ -29,13 +28,13 @@ pub record Response : Type 0 where
 
 -- "Any other line … prints `?`", and keeps the post
 abbrev pub unknown : Kept → Response
-unknown kept = record { text = answer_text Unknown []; post = kept }
+unknown kept = record { text = unknown_text; post = kept }
 
 -- "It prints the number" "A refused setup keeps the earlier post."
 abbrev pub after_setup : Kept → ℕ → SetUp → Response
 after_setup kept leads r =
     record {
-      text = answer_text (Returned r.number) [];
+      text = returned_text r.number;
       post = cond (eqb r.number 0) (record { leads = leads; state = r.state }) kept;
     }
 
@@ -48,7 +47,7 @@ answer_setup kept numbers =
 abbrev pub after_tick : ℕ → Ticked → Response
 after_tick leads r =
     record {
-      text = cond (eqb r.number 0) (answer_text Done r.output) (answer_text (Returned r.number) []);
+      text = cond (eqb r.number 0) (done_text r.output) (returned_text r.number);
       post = record { leads = leads; state = r.state };
     }
 
@@ -60,10 +59,10 @@ answer_tick kept count input =
     (after_tick kept.leads
     (tick_of kept.state (take (max (input_length kept.leads) count) input) (zeros (output_length kept.leads))))
 
-abbrev pub by_line : Kept → Line → List ℕ → Response
-by_line kept (Setup numbers) input = answer_setup kept numbers
-by_line kept (Tick count) input = answer_tick kept count input
-by_line kept Other input = unknown kept
+abbrev pub by_line : Kept → Option Line → List ℕ → Response
+by_line kept (Some (Setup numbers)) input = answer_setup kept numbers
+by_line kept (Some (Tick count)) input = answer_tick kept count input
+by_line kept None input = unknown kept
 
 -- a line without its line feed
 unfoldable pub answer_to : Kept → List ℕ → Response

@@ -6,5 +6,5 @@ mod answers;
 mod pieces;
 mod posts;
 
-pub use answers::{Answered, answer};
-pub use pieces::{ANSWER, LINE, Progress, feed, finish};
+pub use answers::Post;
+pub use pieces::{ANSWER, Carried, LINE, Progress};

@@ -7,27 +7,11 @@ ghost use Rattle.bench_answers.specs.Rooms.{state_room, output_room};
 use post::{MOST_LEADS, input_length, output_length, setup, state_length, tick};
 use setup_numbers::SetupNumbers;
 
-pub(crate) fn lesser(a: usize, b: usize) -> usize
-    ensures { result ≡ min a b }
-{
-    if a < b { a } else { b }
-}
-
-fn greater(a: usize, b: usize) -> usize
-    ensures { result ≡ max a b }
-{
-    if a < b { b } else { a }
-}
-
 // At most as many leads as there is room for; setup refuses 0 and any number above.
 pub(crate) fn leads_of(number: u32) -> u8
     ensures { result ≡ min number most_leads }
 {
-    if number < MOST_LEADS {
-        number as u8
-    } else {
-        MOST_LEADS as u8
-    }
+    number.min(MOST_LEADS) as u8
 }
 
 // Setup on the beginning of the buffer, as much of it as that many leads ask for.
@@ -66,7 +50,7 @@ pub(crate) fn tick_on(
         (take (output_length leads) output.old)) }
 {
     let end = state_length(leads);
-    let length = lesser(greater(input_length(leads), count), input.len());
+    let length = input_length(leads).max(count).min(input.len());
     let shown = output_length(leads);
     tick(&mut state[..end], &input[..length], &mut output[..shown])
 }

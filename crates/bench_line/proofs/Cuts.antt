@@ -1,83 +1,76 @@
 -- Where a line is cut into fields: at its first tab, and not at all where there is none. Assumes nothing.
-use mathlib.Core.Bool.{Bool, true, false, cond}
+use mathlib.Core.Bool.{Bool, true, false, cond, not}
 use mathlib.Core.List.{List, [], ◌∷◌}
-use mathlib.Core.Path.{◌≡◌, refl, ap}
+use mathlib.Core.Path.{◌≡◌, refl, ap, subst}
 use Prim.Native.Nat.{ℕ, suc, ◌+◌, ◌-◌, ◌≤◌, ◌<◌}
 use native.Mathlib.Numerals.{add-one}
 use native.Mathlib.Omega.{arith}
 use lib.Dec.{ltb, eqb}
-use lib.ListN.{length, get_or, take, drop, length-drop, drop_of_length-le}
-use lib.Seq.{take_all, drop-cons}
-use borrow.Author.Tests.{eq-eqb, ne_eqb, ltb-true, ltb-false}
+use lib.ListN.{length, take, drop, length-drop}
+use lib.Seq.{take_all}
+use borrow.Author.Tests.{ne_eqb, ltb-true, ltb-false}
+use Rattle.std.specs.Prelude.{Option, Some, None, position}
+use Rattle.std.specs.List.{position_or_len}
 use Rattle.common.proofs.Bools.{and_first, and_second}
-use Rattle.bench_line.specs.Digits.{digit_value, is_digit, all_digits}
-use Rattle.bench_line.specs.Lines.{push, fields_of}
-use Rattle.bench_line.specs.Fields.{first_tab}
+use Rattle.common.proofs.Texts.{some_field}
+use Rattle.common.specs.Texts.{digit_value, is_digit, all_digits, push, fields_of}
 
-module _ (s : List ℕ) (i : ℕ) where
-  pub tab_here : i < length s → get_or s i 0 ≡ 9 → first_tab (drop i s) ≡ 0
-  tab_here h e = rw (drop-cons s i 0 h, eq-eqb _ _ e)
+-- how many characters stand before the first tab
+abbrev tab_at : List ℕ → ℕ
+tab_at s = position_or_len (λ c. eqb c 9) s
 
-  pub tab_later : i < length s → (get_or s i 0 ≡ 9 → ⊥) → first_tab (drop i s) ≡ suc (first_tab (drop (i + 1) s))
-  tab_later h e = rw (drop-cons s i 0 h, ne_eqb _ _ e, add-one i)
-
-  pub tab_none : length s ≤ i → first_tab (drop i s) ≡ 0
-  tab_none h = rw (drop_of_length-le s h)
-
-cut_in : (s : List ℕ) → first_tab s < length s → fields_of s ≡ take (first_tab s) s ∷ fields_of (drop (suc (first_tab s)) s)
+cut_in : (s : List ℕ) → tab_at s < length s → fields_of s ≡ take (tab_at s) s ∷ fields_of (drop (suc (tab_at s)) s)
 cut_in [] h = absurd (omega arith)
-cut_in (c ∷ s) h = go (eqb c 9) h (λ x. cut_in s x)
+cut_in (c ∷ s) h = go (eqb c 9) (1 + tab_at s) (omega arith) h (λ x. cut_in s x)
   where
     go :
-        (b : Bool)
-        → cond b 0 (suc (first_tab s)) < suc (length s)
-        → (first_tab s < length s → fields_of s ≡ take (first_tab s) s ∷ fields_of (drop (suc (first_tab s)) s))
+        (b : Bool) (n : ℕ)
+        → n ≡ suc (tab_at s)
+        → cond (not b) n 0 < suc (length s)
+        → (tab_at s < length s → fields_of s ≡ take (tab_at s) s ∷ fields_of (drop (suc (tab_at s)) s))
         → cond b ([] ∷ fields_of s) (push c (fields_of s))
-        ≡ take (cond b 0 (suc (first_tab s))) (c ∷ s) ∷ fields_of (drop (suc (cond b 0 (suc (first_tab s)))) (c ∷ s))
-    go true h k = refl
-    go false h k = ap (push c) (k (omega arith))
+        ≡ take (cond (not b) n 0) (c ∷ s) ∷ fields_of (drop (suc (cond (not b) n 0)) (c ∷ s))
+    go true n e h k = refl
+    go false n e h k = rw e (ap (push c) (k (omega arith)))
 
--- a line from a place on, as the code cuts it out
-abbrev pub rest : List ℕ → ℕ → List ℕ
-rest s at = take (length s - at) (drop at s)
-
--- the first field, and the fields behind it
-pub cut_at :
-    (s : List ℕ) (n : ℕ) → n ≡ first_tab s → n < length s → fields_of s ≡ take n s ∷ fields_of (rest s (n + 1))
-cut_at s n e h =
-    rw (take_all (length s - (n + 1)) (drop (n + 1) s) (omega (arith, length-drop (n + 1) s)), add-one n, e) (cut_in s (omega arith))
-
-pub cut_none : (s : List ℕ) → length s ≤ first_tab s → fields_of s ≡ s ∷ []
+cut_none : (s : List ℕ) → length s ≤ tab_at s → fields_of s ≡ s ∷ []
 cut_none [] h = refl
 cut_none (c ∷ s) h = go (eqb c 9) h (λ x. cut_none s x)
   where
     go :
         (b : Bool)
-        → suc (length s) ≤ cond b 0 (suc (first_tab s))
-        → (length s ≤ first_tab s → fields_of s ≡ s ∷ [])
+        → suc (length s) ≤ cond (not b) (1 + tab_at s) 0
+        → (length s ≤ tab_at s → fields_of s ≡ s ∷ [])
         → cond b ([] ∷ fields_of s) (push c (fields_of s)) ≡ (c ∷ s) ∷ []
     go true h k = absurd (omega arith)
     go false h k = ap (push c) (k (omega arith))
 
-some_field : (s : List ℕ) (Q : List (List ℕ) → Type 0) → ((f : List ℕ) (fs : List (List ℕ)) → Q (f ∷ fs)) → Q (fields_of s)
-some_field [] Q q = q [] []
-some_field (c ∷ s) Q q = go (eqb c 9) (fields_of s)
-  where
-    go : (b : Bool) (fs : List (List ℕ)) → Q (cond b ([] ∷ fields_of s) (push c fs))
-    go true fs = q [] (fields_of s)
-    go false [] = q (c ∷ []) []
-    go false (f ∷ fs) = q (c ∷ f) fs
+-- the first field and the fields behind it, as the code cuts them out, by where the first tab is
+module _ (s : List ℕ) where
+  abbrev Cut : Option ℕ → Type 0
+  Cut None = fields_of s ≡ s ∷ []
+  Cut (Some n) = (n < length s) × (fields_of s ≡ take n s ∷ fields_of (take (length s - (n + 1)) (drop (n + 1) s)))
+
+  pub cut_at : (r : Option ℕ) → position (λ c. eqb c 9) s ≡ r → Cut r
+  cut_at r e = subst Cut e (go (ltb (tab_at s) (length s)) refl)
+    where
+      go : (b : Bool) → ltb (tab_at s) (length s) ≡ b → Cut (cond b (Some (tab_at s)) None)
+      go true t =
+          let h : tab_at s < length s = ltb-true (tab_at s) (length s) t in
+          let n : ℕ = tab_at s + 1 in
+          (h, rw (take_all (length s - n) (drop n s) (omega (arith, length-drop n s)), add-one (tab_at s)) (cut_in s h))
+      go false t = cut_none s (ltb-false (tab_at s) (length s) t)
 
 -- what holds of one field that is the whole line, and of two fields or more
 pub by_fields :
     (s : List ℕ) (Q : List (List ℕ) → Type 0) → Q (s ∷ []) → ((f g : List ℕ) (fs : List (List ℕ)) → Q (f ∷ g ∷ fs)) → Q (fields_of s)
-by_fields s Q one more = go (ltb (first_tab s) (length s)) refl
+by_fields s Q one more = go (ltb (tab_at s) (length s)) refl
   where
-    go : (b : Bool) → ltb (first_tab s) (length s) ≡ b → Q (fields_of s)
+    go : (b : Bool) → ltb (tab_at s) (length s) ≡ b → Q (fields_of s)
     go true e =
-        rw (cut_in s (ltb-true (first_tab s) (length s) e))
-        (some_field (drop (suc (first_tab s)) s) (λ fs. Q (take (first_tab s) s ∷ fs)) (more (take (first_tab s) s)))
-    go false e = rw (cut_none s (ltb-false (first_tab s) (length s) e)) one
+        rw (cut_in s (ltb-true (tab_at s) (length s) e))
+        (some_field (drop (suc (tab_at s)) s) (λ fs. Q (take (tab_at s) s ∷ fs)) (more (take (tab_at s) s)))
+    go false e = rw (cut_none s (ltb-false (tab_at s) (length s) e)) one
 
 -- digits of a base hold no tab
 tab_value : digit_value 9 ≡ 16

@@ -1,7 +1,5 @@
--- Laws: numbers, pairs of hex digits, texts compared, fields, lines by their first word, and texts written into a buffer.
-pub mod Value
+-- Laws: pairs of hex digits, fields, lines by their first word, and texts written into a buffer.
 pub mod Pairs
-pub mod Compared
 pub mod Cuts
 pub mod Rests
 pub mod Words

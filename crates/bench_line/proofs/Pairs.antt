@@ -1,16 +1,23 @@
--- Hex in pairs of digits: the byte of each pair, and bytes written one by one with 0 behind them. Assumes nothing.
-use mathlib.Core.Bool.{true}
+-- Hex in pairs of digits: the test of all digits, the byte of each pair, and bytes written one by one with 0 behind them. Assumes nothing.
+use mathlib.Core.Bool.{true, ◌&&◌}
 use mathlib.Core.List.{List, [], ◌∷◌, ◌++◌}
-use mathlib.Core.Path.{◌≡◌, refl, sym, ap, ◌∙◌}
+use mathlib.Core.Path.{◌≡◌, refl, ap}
 use Prim.Native.Nat.{ℕ, zero, suc, ◌+◌, ◌*◌, ◌/◌, ◌%◌, ◌≤◌, ◌<◌}
 use native.Mathlib.Numerals.{add-one}
 use native.Mathlib.Omega.{arith}
 use lib.Dec.{eqb}
 use lib.ListN.{length, get_or, set, take}
-use lib.Seq.{take_all, take-suc-set}
+use lib.Seq.{take-suc-set}
 use borrow.Author.Tests.{ltb-true}
+use Rattle.std.specs.List.{list_all}
 use Rattle.common.proofs.Bools.{and_first, and_second}
-use Rattle.bench_line.specs.Digits.{digit_value, is_digit, all_digits, is_pairs, bytes_of, padded}
+use Rattle.common.specs.Texts.{digit_value, is_digit, all_digits}
+use Rattle.bench_line.specs.Digits.{is_pairs, bytes_of, padded}
+
+-- the test as the library goes through the characters
+pub all_are : (base : ℕ) (s : List ℕ) → list_all (λ c. is_digit base c) s ≡ all_digits base s
+all_are base [] = refl
+all_are base (c ∷ s) = ap (λ b. is_digit base c && b) (all_are base s)
 
 pub pairs_digits : (s : List ℕ) → is_pairs s ≡ true → all_digits 16 s ≡ true
 unfolding is_pairs
@@ -57,6 +64,3 @@ pub padded_more :
     → take i d ≡ padded i l
     → take (i + 1) (set d i x) ≡ padded (i + 1) l
 padded_more l d i x h e before = rw (add-one i, take-suc-set d i x h, before, e, padded_suc i l)
-
-pub padded_all : (l d : List ℕ) (i n : ℕ) → length d ≤ i → i ≡ n → take i d ≡ padded i l → d ≡ padded n l
-padded_all l d i n h e all = rw (← e) (sym (take_all i d h) ∙ all)

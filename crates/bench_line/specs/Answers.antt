@@ -11,10 +11,19 @@ number_text n =
     (cond (ltb n 100) (digit (n / 10) ∷ digit (n % 10) ∷ []) (digit (n / 100) ∷ digit (n / 10 % 10) ∷ digit (n % 10) ∷ []))
 
 -- "It prints the number, and for a tick done a tab and the output in capital hex. Any other line … prints `?`." Each ends with a line feed.
-abbrev pub answer_text : Answer → List ℕ → List ℕ
-answer_text Unknown output = 63 ∷ 10 ∷ []
-answer_text (Returned n) output = number_text n ++ (10 ∷ [])
-answer_text Done output = 48 ∷ 9 ∷ (hex_text output ++ (10 ∷ []))
+abbrev pub returned_text : ℕ → List ℕ
+returned_text n = number_text n ++ (10 ∷ [])
+
+abbrev pub done_text : List ℕ → List ℕ
+done_text output = 48 ∷ 9 ∷ (hex_text output ++ (10 ∷ []))
+
+abbrev pub unknown_text : List ℕ
+unknown_text = 63 ∷ 10 ∷ []
+
+abbrev pub answer_text : Answer → List ℕ
+answer_text Unknown = unknown_text
+answer_text (Returned n) = returned_text n
+answer_text (Done output) = done_text output.now
 
 -- how many characters were written, and what the lent buffer holds then
 pub record Written : Type 0 where

@@ -2,4 +2,3 @@
 pub mod Digits
 pub mod Lines
 pub mod Answers
-pub mod Fields

@@ -1,74 +1,39 @@
 // Fields that are numbers, and hex in pairs of digits.
-ghost use Rattle.std.specs.Prelude.{◌≡◌, true, ◌≤◌, length, get_or};
-ghost use Rattle.bench_line.specs.Digits.{number_of, decimal_of, bits_of, is_pairs, bytes_of, padded};
+ghost use Rattle.std.specs.Prelude.{◌≡◌, true, length, get_or};
+ghost use Rattle.std.specs.List.{list_all};
+ghost use Rattle.common.specs.Texts.{is_digit};
+ghost use Rattle.bench_line.specs.Digits.{decimal_of, bits_of, is_pairs, bytes_of, padded};
 
-use super::digits::digit_value;
+use common::{digit_value, number_in};
 
-#[derive(Clone, Copy)]
-pub enum Number {
-    Value(u32),
-    Not,
-}
-
-fn wide(value: u8) -> u64
-    ensures { result ≡ value }
-{
-    value as u64
-}
-
-// Digits of a base, and the number that they say, if it is at most that much.
-fn number_in(digits: &[u8], base: u8, most: u32) -> Number
-    requires { base ≤ 16 }
-    ensures { result ≡ number_of base most digits.now }
-{
-    let mut value: u64 = 0;
-    let mut i = 0;
-    while i < digits.len() {
-        let next = digit_value(digits[i]);
-        if base <= next {
-            return Number::Not;
-        }
-        value = wide(base) * value + wide(next);
-        if (most as u64) < value {
-            return Number::Not;
-        }
-        i += 1;
-    }
-    Number::Value(value as u32)
-}
-
-pub(crate) fn decimal(field: &[u8]) -> Number
+pub(crate) fn decimal(field: &[u8]) -> Option<u32>
     ensures { result ≡ decimal_of field.now }
 {
-    if field.len() == 0 {
-        return Number::Not;
+    if field.is_empty() {
+        return None;
     }
     number_in(field, 10, 65535)
 }
 
-pub(crate) fn bits(field: &[u8]) -> Number
+pub(crate) fn bits(field: &[u8]) -> Option<u32>
     ensures { result ≡ bits_of field.now }
 {
     if field.len() != 8 {
-        return Number::Not;
+        return None;
     }
     number_in(field, 16, u32::MAX)
+}
+
+fn are_digits(hex: &[u8]) -> bool
+    ensures { result ≡ list_all (λ c. is_digit 16 c) hex.now }
+{
+    hex.iter().all(|&c| digit_value(c) < 16)
 }
 
 pub(crate) fn are_pairs(hex: &[u8]) -> bool
     ensures { result ≡ is_pairs hex.now }
 {
-    if hex.len() % 2 != 0 {
-        return false;
-    }
-    let mut i = 0;
-    while i < hex.len() {
-        if 16 <= digit_value(hex[i]) {
-            return false;
-        }
-        i += 1;
-    }
-    true
+    hex.len() % 2 == 0 && are_digits(hex)
 }
 
 // The byte of the pair with that number, 0 where there is none.
@@ -88,9 +53,7 @@ pub(crate) fn write_bytes(hex: &[u8], input: &mut [u8])
     requires { is_pairs hex.now ≡ true }
     ensures { input.new ≡ padded (length input.old) (bytes_of hex.now) }
 {
-    let mut i = 0;
-    while i < input.len() {
-        input[i] = byte_at(hex, i);
-        i += 1;
+    for (pair, byte) in input.iter_mut().enumerate() {
+        *byte = byte_at(hex, pair);
     }
 }

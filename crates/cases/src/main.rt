@@ -4,9 +4,10 @@
 
 use std::io;
 
-mod hex;
+mod calls;
 mod resistances;
 mod sessions;
+mod text;
 mod whole;
 
 fn main(rt: HostRuntime) -> io::Result<()> {

@@ -1,8 +1,9 @@
 // Document 01's cable resistances: 3F000000, minus zero, NaN, and what stands beside them. Of each setup its number and the head's bytes for
 // the resistance, which stay 0 where it is refused.
-use super::hex;
+use super::calls::set_up;
+use super::text::Hex;
 use lead_records::StateRecord;
-use post::{HEAD_SIZE, setup};
+use post::HEAD_SIZE;
 use std::io;
 
 // 0.5, minus zero, 1, the next float above it, minus the smallest float, plus infinity, two NaNs.
@@ -15,19 +16,11 @@ const STATE: usize = HEAD_SIZE + StateRecord::SIZE;
 
 const RESISTANCE: usize = 4;
 
-fn set_up(rt: &impl Print, resistance: u32) -> io::Result<()> {
-    let mut state = [0u8; STATE];
-    let number = setup(1, 500, 125, resistance, 0, 0, &mut state);
-    rt.write_all(&[hex::digit_of(number), b'\t'])?;
-    for i in RESISTANCE..RESISTANCE + 4 {
-        hex::write_byte(rt, state[i])?;
-    }
-    rt.write_all(&[b'\n'])
-}
-
 pub(crate) fn resistances(rt: &impl Print) -> io::Result<()> {
-    for i in 0..8 {
-        set_up(rt, RESISTANCES[i])?;
+    for resistance in RESISTANCES {
+        let mut state = [0; STATE];
+        let number = set_up(1, resistance, &mut state);
+        println!(rt; "{number}\t{}", Hex(&state[RESISTANCE..RESISTANCE + 4]))?;
     }
     Ok(())
 }

@@ -1,5 +1,5 @@
 -- Tests as facts, beside those of the library. Assumes nothing.
-use mathlib.Core.Bool.{Bool, true, false, not, cond, ◌&&◌, ◌||◌, false≢true}
+use mathlib.Core.Bool.{Bool, true, false, not, ◌&&◌, ◌||◌, false≢true}
 use mathlib.Core.Logic.{◌⊎◌, inl, inr}
 use mathlib.Core.Path.{◌≡◌, refl, sym, subst, ◌∙◌}
 use Prim.Native.Nat.{ℕ, zero, suc, ◌≤◌, ◌<◌}
@@ -62,14 +62,6 @@ pub imp_of : (a b : Bool) → (T a → T b) → T (imp a b)
 imp_of true b f = f tt
 imp_of false b f = tt
 
--- the case of a choice that is made
-module _ {A : Type 0} (b : Bool) (x y : A) where
-  pub when_true : b ≡ true → x ≡ cond b x y
-  when_true e = rw e
-
-  pub when_false : b ≡ false → y ≡ cond b x y
-  when_false e = rw e
-
 module _ (first last n : ℕ) where
   pub between_of : first ≤ n → n ≤ last → T (between first last n)
   between_of a b = and_i (leb first n) (leb n last) (le→leb first n a) (le→leb n last b)
@@ -109,12 +101,3 @@ up_to_at (suc n) f t k h = go (at_or_past k (suc n) h) (up_to_at n f (and_r (f (
     go : (suc n ≡ k) ⊎ (suc k ≤ suc n) → (k ≤ n → T (f k)) → T (f k)
     go (inl e) r = subst (λ (m : ℕ). T (f m)) e (and_l (f (suc n)) (up_to n f) t)
     go (inr g) r = r (omega arith)
-
--- what the last arm of a `match` knows that has one for each number below n
-abbrev pub NoneBelow : ℕ → ℕ → Type 0
-NoneBelow zero x = Unit
-NoneBelow (suc n) x = NoneBelow n x × (x ≡ n → ⊥)
-
-pub none_below : (n x : ℕ) → NoneBelow n x → n ≤ x
-none_below zero x r = omega arith
-none_below (suc n) x r = let b : n ≤ x = none_below n x r.0 in let d : x ≡ n → ⊥ = r.1 in omega arith

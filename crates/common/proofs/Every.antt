@@ -12,7 +12,7 @@ use lib.Ieee.Fits.{and_i, and_l, and_r}
 use lib.ListN.{take, drop}
 use Rattle.common.specs.Parts.{part, every}
 use Rattle.common.proofs.Joined.{cut}
-use Rattle.common.proofs.Bools.{said_no, said_yes, and_false}
+use Rattle.common.proofs.Bools.{said_no, and_false}
 
 every_not : (n i : ℕ) (f : ℕ → Bool) → i < n → f i ≡ false → every n f ≡ false
 unfolding every
@@ -53,6 +53,3 @@ module _ (test : List ℕ → Bool) (head size : ℕ) (bytes : List ℕ) where
     pub each_not : (n : ℕ) → i < n → not r ≡ true → false ≡ each n
     each_not n h no-said = sym (every_not n i (λ k. test (part head size k bytes)) h
         (said_no (e ∙ ap test (cut head size i _ bytes refl)) no-said))
-
-    pub each_more : each i ≡ true → not r ≡ false → each (i + 1) ≡ true
-    each_more before said = every_more i (λ k. test (part head size k bytes)) before (said_yes (e ∙ ap test (cut head size i _ bytes refl)) said)

@@ -7,7 +7,8 @@ use native.Mathlib.Omega.{arith}
 use lib.Dec.{T, T_not, eqb}
 use lib.Ieee.Fits.{and_l, and_r}
 use borrow.Author.Tests.{eq-eqb}
-use Rattle.common.specs.Refusals.{Asked, refusal_of, done_unless}
+use Rattle.std.specs.Prelude.{Ok, Err}
+use Rattle.common.specs.Refusals.{Asked, asks, refusal_of, done_unless, number_of}
 use Rattle.common.proofs.Bools.{holds}
 
 -- a test of every number, which the checker computes
@@ -57,6 +58,13 @@ all_met [] t e = tt
 all_met (row ∷ rows) t e =
     let first = met_first row rows t e in
     (first.0, all_met rows (others row rows t) first.1)
+
+-- a question that is asked as a call asks it is a row by itself
+pub row_asked :
+    {R : Type 0} (number : R → ℕ) (met : Bool) (refusal : R)
+    → number_of number (cond met (Ok tt) (Err refusal)) ≡ refusal_of (asks met (number refusal) ∷ [])
+row_asked number true refusal = refl
+row_asked number false refusal = refl
 
 -- rows behind rows
 pub first_refused : (a b : List Asked) → (refusal_of a ≡ 0 → ⊥) → refusal_of a ≡ refusal_of (a ++ b)

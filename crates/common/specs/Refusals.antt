@@ -1,5 +1,5 @@
 -- What a call asks before it does anything, and what it leaves then. Definitions only.
-use Rattle.std.specs.Prelude.{Bool, cond, List, [], ◌∷◌, ℕ, zero, suc}
+use Rattle.std.specs.Prelude.{Bool, cond, List, [], ◌∷◌, ℕ, zero, suc, Result, Ok, Err, ⊤}
 
 -- a row: whether the question gets a yes, and the number with which the call is refused otherwise
 pub record Asked : Type 0 where
@@ -18,3 +18,8 @@ refusal_of (row ∷ rows) = cond row.met (refusal_of rows) row.number
 unfoldable pub done_unless : {A : Type 0} → ℕ → (ℕ → A) → A → A
 done_unless zero refused done = done
 done_unless (suc n) refused done = refused (suc n)
+
+-- the number that a call returns: its refusal's, 0 where it is done
+abbrev pub number_of : {R : Type 0} → (R → ℕ) → Result ⊤ R → ℕ
+number_of number (Ok done) = 0
+number_of number (Err refusal) = number refusal

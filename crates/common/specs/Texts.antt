@@ -1,5 +1,5 @@
 -- Texts in ASCII: digits, the numbers that they say, and fields between tabs. Definitions only.
-use Rattle.std.specs.Prelude.{Bool, true, cond, ◌&&◌, List, [], ◌∷◌, ℕ, ◌+◌, ◌-◌, ◌*◌, ltb, eqb}
+use Rattle.std.specs.Prelude.{Bool, true, cond, ◌&&◌, List, [], ◌∷◌, ℕ, ◌+◌, ◌-◌, ◌*◌, leb, ltb, eqb, Option, Some, None}
 use Rattle.common.specs.Tests.{between}
 
 -- the value of the character 0 to 9, A to F or a to f, and 16 for any other
@@ -18,6 +18,10 @@ all_digits base (c ∷ s) = is_digit base c && all_digits base s
 abbrev pub value_from : ℕ → ℕ → List ℕ → ℕ
 value_from base n [] = n
 value_from base n (c ∷ s) = value_from base (base * n + digit_value c) s
+
+-- digits of a base only, in either case, and the number at most that much; leading zeros count for nothing
+unfoldable pub number_in : ℕ → ℕ → List ℕ → Option ℕ
+number_in base most s = cond (all_digits base s && leb (value_from base 0 s) most) (Some (value_from base 0 s)) None
 
 -- a character before the first of some texts
 abbrev pub push : ℕ → List (List ℕ) → List (List ℕ)

@@ -2,22 +2,18 @@
 // does anything, and digits and fields of a text. Most of it is rules and laws. Rests on nothing.
 #![tactic(auto)]
 
-ghost use Rattle.std.specs.Prelude.{◌≡◌, [], ◌∷◌};
+mod refusals;
+
+ghost use Rattle.std.specs.Prelude.{◌≡◌, ◌≤◌};
 ghost use Rattle.common.specs.Tests.{between};
-ghost use Rattle.common.specs.Refusals.{asks, refusal_of};
-ghost use Rattle.common.specs.Texts.{digit_value};
+ghost use Rattle.common.specs.Texts.{digit_value, number_in};
+
+pub use refusals::{Numbered, answered, unless};
 
 pub fn is_between(first: u32, last: u32, number: u32) -> bool
     ensures { result ≡ between first last number }
 {
     (first <= number) & (number <= last)
-}
-
-// The last of a call's questions: the number with which it is refused, 0 where the answer is yes.
-pub fn unless(met: bool, number: u32) -> u32
-    ensures { result ≡ refusal_of (asks met number ∷ []) }
-{
-    if met { 0 } else { number }
 }
 
 // The value of a hex digit in either case, 16 for a character that is none.
@@ -30,4 +26,23 @@ pub fn digit_value(character: u8) -> u8
         b'a'..=b'f' => character - b'a' + 10,
         _ => 16,
     }
+}
+
+// Digits of a base, and the number that they say, if it is at most that much. No digits at all say 0.
+pub fn number_in(digits: &[u8], base: u8, most: u32) -> Option<u32>
+    requires { base ≤ 16 }
+    ensures { result ≡ number_in base most digits.now }
+{
+    let mut value: u64 = 0;
+    for &character in digits {
+        let digit = digit_value(character);
+        if base <= digit {
+            return None;
+        }
+        value = u64::from(base) * value + u64::from(digit);
+        if u64::from(most) < value {
+            return None;
+        }
+    }
+    Some(value as u32)
 }

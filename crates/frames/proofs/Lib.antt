@@ -1,3 +1,2 @@
--- Laws: the search for the newest frame, and the bounds of times.
-pub mod Found
-pub mod TimeBounds
+-- Laws: the newest frames among the records passed.
+pub mod Passed

@@ -1,5 +1,4 @@
 pub mod Records
-pub mod Search
 pub mod Times
 pub mod Heard
 pub mod Sent

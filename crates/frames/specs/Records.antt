@@ -1,5 +1,5 @@
 -- Document 01, 'Frames', first paragraph: which record of a tick counts. Definitions only.
-use Rattle.std.specs.Prelude.{Bool, cond, ◌&&◌, List, [], ℕ, zero, suc, ◌+◌, ◌/◌, min, eqb, length, get_or}
+use Rattle.std.specs.Prelude.{Bool, cond, ◌&&◌, List, ℕ, zero, suc, ◌+◌, ◌/◌, min, eqb, length, get_or, Option, Some, None}
 use Rattle.common.specs.Parts.{part}
 use Rattle.little_endian.specs.Numbers.{u16_at}
 
@@ -21,11 +21,11 @@ data_number r i = u16_at r (3 + i)
 unfoldable pub is_frame : ℕ → List ℕ → Bool
 is_frame identifier r = eqb (u16_at r 0) identifier && eqb (get_or r 2 0) 8
 
--- "Of several with one identifier in a tick, the last counts": the last such frame among the first n records, [] where there is none
-abbrev pub last_of : ℕ → List ℕ → ℕ → List ℕ
-last_of identifier s zero = []
-last_of identifier s (suc n) = cond (is_frame identifier (record_at n s)) (record_at n s) (last_of identifier s n)
+-- "Of several with one identifier in a tick, the last counts": the last such frame among the first n records, None where there is none
+abbrev pub last_of : ℕ → List ℕ → ℕ → Option (List ℕ)
+last_of identifier s zero = None
+last_of identifier s (suc n) = cond (is_frame identifier (record_at n s)) (Some (record_at n s)) (last_of identifier s n)
 
 -- of the records that the count takes in; there are no more than the list has whole ones
-unfoldable pub newest_record : ℕ → ℕ → List ℕ → List ℕ
+unfoldable pub newest_record : ℕ → ℕ → List ℕ → Option (List ℕ)
 newest_record identifier count s = last_of identifier s (min count (length s / record_size))

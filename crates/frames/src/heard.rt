@@ -1,5 +1,4 @@
-// The frames that a car sends: H'100, H'101 and H'102. Each is heard in a tick, or is absent; it is read from its record, which is empty
-// where there is none.
+// The frames that a car sends, H'100, H'101 and H'102: where their values stand in a record.
 ghost use Rattle.std.specs.Prelude.{◌≡◌};
 ghost use Rattle.frames.specs.Heard.{battery_in, time_in, status_in, signals_of};
 
@@ -8,25 +7,13 @@ use super::times::{ChargingTime, Minutes, TensOfSeconds};
 use little_endian::u16_at;
 
 // H'100: maximum battery voltage, in volts.
-#[derive(Clone, Copy)]
-pub enum BatteryFrame {
-    Heard(u16),
-    Absent,
-}
+pub(crate) struct BatteryFrame;
 
 // H'101: maximum charging time.
-#[derive(Clone, Copy)]
-pub enum TimeFrame {
-    Heard(ChargingTime),
-    Absent,
-}
+pub(crate) struct TimeFrame;
 
 // H'102: the vehicle's status.
-#[derive(Clone, Copy)]
-pub enum StatusFrame {
-    Heard(VehicleStatus),
-    Absent,
-}
+pub(crate) struct StatusFrame;
 
 // Target voltage, requested amperes, and the two bytes of bits as they came.
 #[derive(Clone, Copy)]
@@ -52,13 +39,10 @@ impl BatteryFrame {
 
     const MAXIMUM_VOLTAGE: usize = 4;
 
-    pub(crate) fn read(frame: &[u8]) -> BatteryFrame
+    pub(crate) fn read(frame: &[u8; FrameRecord::SIZE]) -> u16
         ensures { result ≡ battery_in frame.now }
     {
-        if frame.len() != FrameRecord::SIZE {
-            return BatteryFrame::Absent;
-        }
-        BatteryFrame::Heard(u16_at(frame, FrameRecord::DATA + BatteryFrame::MAXIMUM_VOLTAGE))
+        u16_at(frame, FrameRecord::DATA + BatteryFrame::MAXIMUM_VOLTAGE)
     }
 }
 
@@ -69,16 +53,13 @@ impl TimeFrame {
 
     const MINUTES: usize = 2;
 
-    pub(crate) fn read(frame: &[u8]) -> TimeFrame
+    pub(crate) fn read(frame: &[u8; FrameRecord::SIZE]) -> ChargingTime
         ensures { result ≡ time_in frame.now }
     {
-        if frame.len() != FrameRecord::SIZE {
-            return TimeFrame::Absent;
-        }
-        TimeFrame::Heard(ChargingTime {
+        ChargingTime {
             tens: TensOfSeconds(frame[FrameRecord::DATA + TimeFrame::TENS_OF_SECONDS]),
             minutes: Minutes(frame[FrameRecord::DATA + TimeFrame::MINUTES]),
-        })
+        }
     }
 }
 
@@ -93,18 +74,15 @@ impl StatusFrame {
 
     const STATUS: usize = 5;
 
-    pub(crate) fn read(frame: &[u8]) -> StatusFrame
+    pub(crate) fn read(frame: &[u8; FrameRecord::SIZE]) -> VehicleStatus
         ensures { result ≡ status_in frame.now }
     {
-        if frame.len() != FrameRecord::SIZE {
-            return StatusFrame::Absent;
-        }
-        StatusFrame::Heard(VehicleStatus {
+        VehicleStatus {
             target: u16_at(frame, FrameRecord::DATA + StatusFrame::TARGET_VOLTAGE),
             request: frame[FrameRecord::DATA + StatusFrame::REQUESTED_AMPERES],
             faults: frame[FrameRecord::DATA + StatusFrame::FAULTS],
             flags: frame[FrameRecord::DATA + StatusFrame::STATUS],
-        })
+        }
     }
 }
 
@@ -122,6 +100,7 @@ impl VehicleStatus {
 
     const STOP_REQUEST: u8 = 16;
 
+    #[tactic(auto, unfolding(crate::specs::Heard::signals_of))]
     pub fn signals(self) -> VehicleSignals
         ensures { result ≡ signals_of self }
     {

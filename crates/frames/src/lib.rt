@@ -8,7 +8,7 @@ mod records;
 mod sent;
 mod times;
 
-pub use heard::{BatteryFrame, StatusFrame, TimeFrame, VehicleSignals, VehicleStatus};
+pub use heard::{VehicleSignals, VehicleStatus};
 pub use newest::HeardFrames;
 pub use records::FrameRecord;
 pub use sent::{ChargerFlags, Offer, Report};

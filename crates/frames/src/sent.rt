@@ -1,9 +1,9 @@
 // The frames that the post sends: H'108 and H'109, eight data bytes each.
-ghost use Rattle.std.specs.Prelude.{◌≡◌, min};
+ghost use Rattle.std.specs.Prelude.{◌≡◌};
 ghost use Rattle.frames.specs.Sent.{flags_byte, offer_bytes, report_bytes};
 
 use super::times::ChargingTime;
-use little_endian::{flag, high_byte, low_byte};
+use little_endian::{flag, u16_bytes};
 
 // H'108: rated volts, the amperes on offer, and the threshold voltage (0 before it is kept).
 #[derive(Clone, Copy)]
@@ -35,28 +35,25 @@ pub struct ChargerFlags {
 }
 
 impl Offer {
-    const WELDING_DETECTION: usize = 0;
-
-    // Welding detection is done.
+    // Byte 0: welding detection is done.
     const SUPPORTED: u8 = 1;
 
-    const VOLTS: usize = 1;
-
-    const AMPERES: usize = 3;
-
-    const THRESHOLD: usize = 4;
-
+    #[tactic(auto, unfolding(crate::specs::Sent::offer_bytes))]
     pub fn bytes(self) -> [u8; 8]
         ensures { result ≡ offer_bytes self }
     {
-        let mut data = [0u8; 8];
-        data[Offer::WELDING_DETECTION] = Offer::SUPPORTED;
-        data[Offer::VOLTS] = low_byte(self.volts);
-        data[Offer::VOLTS + 1] = high_byte(self.volts);
-        data[Offer::AMPERES] = self.amperes;
-        data[Offer::THRESHOLD] = low_byte(self.threshold);
-        data[Offer::THRESHOLD + 1] = high_byte(self.threshold);
-        data
+        let [volts_low, volts_high] = u16_bytes(self.volts);
+        let [threshold_low, threshold_high] = u16_bytes(self.threshold);
+        [
+            Offer::SUPPORTED,
+            volts_low,
+            volts_high,
+            self.amperes,
+            threshold_low,
+            threshold_high,
+            0, // The last two bytes are 0.
+            0,
+        ]
     }
 }
 
@@ -74,6 +71,7 @@ impl ChargerFlags {
 
     const STOPPED: u8 = 32;
 
+    #[tactic(auto, unfolding(crate::specs::Sent::flags_byte))]
     fn byte(self) -> u8
         ensures { result ≡ flags_byte self }
     {
@@ -86,40 +84,24 @@ impl ChargerFlags {
     }
 }
 
-// At most what one byte holds.
-fn capped(amperes: u16) -> u8
-    ensures { result ≡ min amperes 255 }
-{
-    if amperes < 255 { amperes as u8 } else { 255 }
-}
-
 impl Report {
-    const PROTOCOL: usize = 0;
-
     const PROTOCOL_NUMBER: u8 = 2;
 
-    const VOLTS: usize = 1;
-
-    const AMPERES: usize = 3;
-
-    const FLAGS: usize = 5;
-
-    const REMAINING_TENS: usize = 6;
-
-    const REMAINING_MINUTES: usize = 7;
-
+    #[tactic(auto, unfolding(crate::specs::Sent::report_bytes))]
     pub fn bytes(self) -> [u8; 8]
         ensures { result ≡ report_bytes self }
     {
-        let flags = self.flags;
-        let mut data = [0u8; 8];
-        data[Report::PROTOCOL] = Report::PROTOCOL_NUMBER;
-        data[Report::VOLTS] = low_byte(self.volts);
-        data[Report::VOLTS + 1] = high_byte(self.volts);
-        data[Report::AMPERES] = capped(self.amperes);
-        data[Report::FLAGS] = flags.byte();
-        data[Report::REMAINING_TENS] = self.remaining.tens.0;
-        data[Report::REMAINING_MINUTES] = self.remaining.minutes.0;
-        data
+        let [volts_low, volts_high] = u16_bytes(self.volts);
+        [
+            Report::PROTOCOL_NUMBER,
+            volts_low,
+            volts_high,
+            // At most what one byte holds.
+            self.amperes.min(255) as u8,
+            0,
+            self.flags.byte(),
+            self.remaining.tens.0,
+            self.remaining.minutes.0,
+        ]
     }
 }

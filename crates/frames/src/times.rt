@@ -2,7 +2,7 @@
 ghost use Rattle.std.specs.Prelude.{◌≡◌, ◌-◌, ◌<◌};
 ghost use Rattle.frames.specs.Times.{in_minutes, charging_ticks, remaining_time, ticks_of_tens, ticks_of_minutes, tens_of_ticks, minutes_of_ticks};
 
-#[derive(Clone, Copy)]
+#[derive(Clone, Copy, PartialEq, Eq)]
 pub struct TensOfSeconds(pub u8);
 
 #[derive(Clone, Copy)]
@@ -13,6 +13,7 @@ pub struct Minutes(pub u8);
 pub struct Ticks(pub u32);
 
 // Two bytes: tens of seconds, or H'FF there and the minutes.
+// Kept: both bytes, and no enum of the two units, since a lead's state has them as they came (`time_in`).
 #[derive(Clone, Copy)]
 pub struct ChargingTime {
     pub tens: TensOfSeconds,
@@ -21,20 +22,23 @@ pub struct ChargingTime {
 
 impl TensOfSeconds {
     // No time, but the mark that the minutes count.
-    const SEE_MINUTES: u8 = 0xff;
+    const SEE_MINUTES: TensOfSeconds = TensOfSeconds(0xff);
+}
 
-    fn ticks(self) -> Ticks
-        ensures { result.0 ≡ ticks_of_tens self.0 }
-    {
-        Ticks(100 * (self.0 as u32))
+// Kept: a conversion for each unit, here and below, of one line; a parameter for its ticks would hide which unit a place has.
+impl From<TensOfSeconds> for Ticks {
+    ghost from_gives = { λ tens ticks. ticks.0 ≡ ticks_of_tens tens.0 };
+
+    fn from(tens: TensOfSeconds) -> Ticks {
+        Ticks(100 * u32::from(tens.0))
     }
 }
 
-impl Minutes {
-    fn ticks(self) -> Ticks
-        ensures { result.0 ≡ ticks_of_minutes self.0 }
-    {
-        Ticks(600 * (self.0 as u32))
+impl From<Minutes> for Ticks {
+    ghost from_gives = { λ minutes ticks. ticks.0 ≡ ticks_of_minutes minutes.0 };
+
+    fn from(minutes: Minutes) -> Ticks {
+        Ticks(600 * u32::from(minutes.0))
     }
 }
 
@@ -43,10 +47,7 @@ impl Ticks {
     fn less(self, elapsed: Ticks) -> Ticks
         ensures { result.0 ≡ self.0 - elapsed.0 }
     {
-        if self.0 < elapsed.0 {
-            return Ticks(0);
-        }
-        Ticks(self.0 - elapsed.0)
+        Ticks(self.0.saturating_sub(elapsed.0))
     }
 
     // Rounded down.
@@ -70,29 +71,29 @@ impl ChargingTime {
     fn is_in_minutes(self) -> bool
         ensures { result ≡ in_minutes self }
     {
-        self.tens.0 == TensOfSeconds::SEE_MINUTES
+        self.tens == TensOfSeconds::SEE_MINUTES
     }
 
+    #[tactic(auto, unfolding(crate::specs::Times::charging_ticks))]
     pub fn ticks(self) -> Ticks
         ensures { result.0 ≡ charging_ticks self }
     {
-        let tens = self.tens;
-        let minutes = self.minutes;
         if self.is_in_minutes() {
-            minutes.ticks()
+            Ticks::from(self.minutes)
         } else {
-            tens.ticks()
+            Ticks::from(self.tens)
         }
     }
 
     // What is left of it, in the unit that the car chose.
+    #[tactic(auto, unfolding(crate::specs::Times::remaining_time, crate::specs::Times::charging_ticks))]
     pub fn remaining(self, elapsed: Ticks) -> ChargingTime
         ensures { result ≡ remaining_time self elapsed.0 }
     {
         let left = self.ticks().less(elapsed);
         if self.is_in_minutes() {
             return ChargingTime {
-                tens: TensOfSeconds(TensOfSeconds::SEE_MINUTES),
+                tens: TensOfSeconds::SEE_MINUTES,
                 minutes: left.minutes(),
             };
         }

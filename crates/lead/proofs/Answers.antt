@@ -10,13 +10,14 @@ use lib.Dec.{T, T_not, not_T, leb, ltb, eqb, le→leb, eqb→eq}
 use borrow.Author.Tests.{ne_eqb}
 use lib.ListN.{get_or}
 use lib.Ieee.Fits.{and_i, and_l, and_r}
+use Rattle.std.specs.Prelude.{⊤, Ok, Err, Result, is_some}
 use Rattle.readings.specs.Readings.{at_most, insulated}
 use Rattle.frames.specs.Heard.{signals_of}
 use Rattle.frames.specs.Times.{charging_ticks}
 use Rattle.common.specs.Tests.{between}
 use Rattle.lead.specs.Names.{no_reason, permission_open, not_enabled}
 use Rattle.lead.specs.Figures.{most_volts, most_amperes, least_volts, silence_end}
-use Rattle.lead.specs.Questions.{meter_of, threshold_now, ticks_allowed, view_of, once, questions, is_no, stop_of, first_no, ask, reason_of, no_question, verdict, got_no, Question}
+use Rattle.lead.specs.Questions.{meter_of, unless_bad, threshold_now, ticks_allowed, view_of, once, questions, is_no, stop_of, first_no, ask, reason_of, no_question, verdict, got_no, Question}
 use Rattle.lead.specs.Hearing.{hear}
 use Rattle.lead.specs.declared.state.Lead.{Lead}
 use Rattle.lead.specs.declared.state.HeardLead.{HeardLead}
@@ -24,8 +25,7 @@ use Rattle.lead.specs.declared.state.Car.{Car}
 use Rattle.lead.specs.declared.state.Ratings.{Ratings}
 use Rattle.lead.specs.declared.state.Input.{Input}
 use Rattle.lead.specs.declared.questions.View.{View}
-use Rattle.lead.specs.declared.questions.Verdict.{Verdict}
-use Rattle.lead.specs.declared.questions.Verdict.TheVariants.{Pass, Urgent, Ordinary}
+use Rattle.lead.specs.declared.questions.Stop.{Stop}
 use mir.Facts.{or_yes}
 use Rattle.common.proofs.Bools.{is_true, is_false, between_lo, up_to_at}
 use Rattle.lead.proofs.Phases.{is_pass, is_urgent}
@@ -46,28 +46,28 @@ module _ (p : ℕ) where
   never : T (is_no p no_question) → ⊥
   never t = and_r (between 0 0 p) false t
 
-  module _ (f : Verdict → Bool) where
+  module _ (f : Result ⊤ Stop → Bool) where
     -- a no at some place: the verdict is the stop of a question up to there
-    pub no_gives : (rows : List Question) (j : ℕ) → T (is_no p (row rows j)) → ((i : ℕ) → i ≤ j → T (f (stop_of (row rows i)))) → T (f (first_no p rows))
+    pub no_gives : (rows : List Question) (j : ℕ) → T (is_no p (row rows j)) → ((i : ℕ) → i ≤ j → T (f (Err (stop_of (row rows i))))) → T (f (first_no p rows))
     no_gives [] j t s = absurd (never t)
     no_gives (q ∷ rows) zero t s = rw (is_true (is_no p q) t) (s 0 (omega arith))
     no_gives (q ∷ rows) (suc j) t s = go (is_no p q) (no_gives rows j t (λ i h. s (suc i) (omega arith)))
       where
-        go : (b : Bool) → T (f (first_no p rows)) → T (f (cond b (stop_of q) (first_no p rows)))
+        go : (b : Bool) → T (f (first_no p rows)) → T (f (cond b (Err (stop_of q)) (first_no p rows)))
         go true r = s 0 (omega arith)
         go false r = r
 
     -- a test that a pass meets, and the stop of every question that gets a no
     abbrev pub met : Question → Bool
-    met q = f (stop_of q) || not (is_no p q)
+    met q = f (Err (stop_of q)) || not (is_no p q)
 
-    pub each_gives : (rows : List Question) → T (f Pass) → T (every_row met rows) → T (f (first_no p rows))
+    pub each_gives : (rows : List Question) → T (f (Ok tt)) → T (every_row met rows) → T (f (first_no p rows))
     each_gives [] t s = t
     each_gives (q ∷ rows) t s =
-        go (is_no p q) (or_yes (f (stop_of q)) (not (is_no p q)) (and_l (met q) (every_row met rows) s))
+        go (is_no p q) (or_yes (f (Err (stop_of q))) (not (is_no p q)) (and_l (met q) (every_row met rows) s))
         (each_gives rows t (and_r (met q) (every_row met rows) s))
       where
-        go : (b : Bool) → T (f (stop_of q)) ⊎ T (not b) → T (f (first_no p rows)) → T (f (cond b (stop_of q) (first_no p rows)))
+        go : (b : Bool) → T (f (Err (stop_of q))) ⊎ T (not b) → T (f (first_no p rows)) → T (f (cond b (Err (stop_of q)) (first_no p rows)))
         go true (inl y) r = y
         go true (inr n) r = absurd n
         go false y r = r
@@ -77,30 +77,23 @@ module _ (p : ℕ) where
       (rows : List Question) (j : ℕ)
       → ((i : ℕ) → i < j → T (is_no p (row rows i)) → ⊥)
       → T (is_no p (row rows j))
-      → first_no p rows ≡ stop_of (row rows j)
+      → first_no p rows ≡ Err (stop_of (row rows j))
   first_at [] j none t = absurd (never t)
   first_at (q ∷ rows) zero none t = rw (is_true (is_no p q) t)
   first_at (q ∷ rows) (suc j) none t =
       rw (is_false (is_no p q) (none 0 (omega arith))) (first_at rows j (λ i x. none (suc i) (omega arith)) t)
-
-stop_stops : (q : Question) → T (not (is_pass (stop_of q)))
-stop_stops q = go q.urgent
-  where
-    go : (b : Bool) → T (not (is_pass (cond b (Urgent q.reason) (Ordinary q.reason))))
-    go true = tt
-    go false = tt
 
 module _ (v : View) (h : HeardLead) where
   -- without a stop nothing that was asked got a no
   pass_yes : T (is_pass (ask v h)) → (j : ℕ) → T (is_no h.lead.stage.phase (row (questions v h) j)) → ⊥
   unfolding ask
   pass_yes t j n =
-      T_not (is_pass (ask v h)) (no_gives h.lead.stage.phase (λ w. not (is_pass w)) (questions v h) j n (λ i x. stop_stops (row (questions v h) i))) t
+      T_not (is_pass (ask v h)) (no_gives h.lead.stage.phase (λ w. not (is_pass w)) (questions v h) j n (λ i x. tt)) t
 
   -- the first eight are urgent, so without an urgent stop none of them got a no
-  urgent_rows : (i : ℕ) → i ≤ 7 → T (is_urgent (stop_of (row (questions v h) i)))
+  urgent_rows : (i : ℕ) → i ≤ 7 → T (is_urgent (Err (stop_of (row (questions v h) i))))
   unfolding questions
-  urgent_rows = up_to_at 7 (λ i. is_urgent (stop_of (row (questions v h) i))) tt
+  urgent_rows = up_to_at 7 (λ i. is_urgent (Err (stop_of (row (questions v h) i)))) tt
 
   urgent_no : (j : ℕ) → j ≤ 7 → T (is_no h.lead.stage.phase (row (questions v h) j)) → T (is_urgent (ask v h))
   unfolding ask
@@ -124,13 +117,13 @@ module _ (v : View) (h : HeardLead) where
 abbrev unasked : ℕ → Question → Bool
 unasked p q = not (between q.first q.last p)
 
-unasked_pass : (p : ℕ) (rows : List Question) → T (every_row (unasked p) rows) → first_no p rows ≡ Pass
+unasked_pass : (p : ℕ) (rows : List Question) → T (every_row (unasked p) rows) → first_no p rows ≡ Ok tt
 unasked_pass p [] t = refl
 unasked_pass p (q ∷ rows) t =
     go (between q.first q.last p) (and_l (unasked p q) (every_row (unasked p) rows) t)
     (unasked_pass p rows (and_r (unasked p q) (every_row (unasked p) rows) t))
   where
-    go : (b : Bool) → T (not b) → first_no p rows ≡ Pass → cond (b && not q.answer) (stop_of q) (first_no p rows) ≡ Pass
+    go : (b : Bool) → T (not b) → first_no p rows ≡ Ok tt → cond (b && not q.answer) (Err (stop_of q)) (first_no p rows) ≡ Ok tt
     go true n e = absurd n
     go false n e = e
 
@@ -140,11 +133,11 @@ module _ (v : View) (h : HeardLead) (p≤ : h.lead.stage.phase ≤ 10) where
   outside = up_to_at 10 (λ p. between 1 8 p || every_row (unasked p) (questions v h)) tt h.lead.stage.phase p≤
 
   -- outside 1 to 8 nothing is asked
-  pub quiet : T (not (between 1 8 h.lead.stage.phase)) → ask v h ≡ Pass
+  pub quiet : T (not (between 1 8 h.lead.stage.phase)) → ask v h ≡ Ok tt
   unfolding ask
   quiet t = go (or_yes (between 1 8 h.lead.stage.phase) (every_row (unasked h.lead.stage.phase) (questions v h)) outside)
     where
-      go : T (between 1 8 h.lead.stage.phase) ⊎ T (every_row (unasked h.lead.stage.phase) (questions v h)) → ask v h ≡ Pass
+      go : T (between 1 8 h.lead.stage.phase) ⊎ T (every_row (unasked h.lead.stage.phase) (questions v h)) → ask v h ≡ Ok tt
       go (inl w) = absurd (T_not (between 1 8 h.lead.stage.phase) t w)
       go (inr u) = unasked_pass h.lead.stage.phase (questions v h) u
 
@@ -163,9 +156,9 @@ pub record UrgentYes (c : Ratings) (i : Input) (s : Lead) : Type 0 where
   pub plug_closed : T (between 1 8 s.stage.phase) → T i.contacts.plug
   pub no_ground_fault : T (between 1 8 s.stage.phase) → T (not i.contacts.leakage)
   pub permission_closed : T (between 2 7 s.stage.phase) → T i.contacts.permission
-  pub reading_good : T (between 3 7 s.stage.phase) → T (meter_of c.errors i.reading).good
-  pub volts_in_range : T (between 5 7 s.stage.phase) → T (at_most (meter_of c.errors i.reading).volts (most_volts s.threshold))
-  pub amperes_in_range : T (between 5 7 s.stage.phase) → T (at_most (meter_of c.errors i.reading).amperes (most_amperes c.amperes))
+  pub reading_good : T (between 3 7 s.stage.phase) → T (is_some (meter_of c.errors i.reading))
+  pub volts_in_range : T (between 5 7 s.stage.phase) → T (unless_bad (λ meter. at_most meter.volts (most_volts s.threshold)) (meter_of c.errors i.reading))
+  pub amperes_in_range : T (between 5 7 s.stage.phase) → T (unless_bad (λ meter. at_most meter.amperes (most_amperes c.amperes)) (meter_of c.errors i.reading))
   pub lock_closed : T (between 3 7 s.stage.phase) → T i.contacts.lock
 
 -- The answers of questions 19 to 29. `car` is what the lead knows of the car once it has heard the tick's frames.
@@ -176,7 +169,7 @@ pub record OrdinaryYes (c : Ratings) (i : Input) (s : Lead) (car : Car) : Type 0
       T (between 1 6 s.stage.phase)
       → T
       (once (car.battery.seen && car.status.seen)
-      (leb least_volts car.battery.maximum
+      (leb least_volts car.battery.value
       && leb least_volts car.status.value.target
       && leb car.status.value.target (threshold_now c (hear i s))))
   pub in_park : T (between 1 6 s.stage.phase) → T (signals_of car.status.value).parked

@@ -5,21 +5,20 @@ use mathlib.Core.Path.{◌≡◌, refl}
 use Prim.Native.Nat.{ℕ}
 use lib.Dec.{T, leb, eqb}
 use lib.Ieee.{of_bits, of_int, le, lt, eq, mul, sub}
-use lib.Ieee.Fits.{and_i, and_l, and_r}
+use Rattle.std.specs.Prelude.{Option, Some}
 use Rattle.readings.specs.Value.{least}
 use Rattle.readings.specs.Readings.{reading_of, in_range, connector_volts, in_tenths, judged_of, of_units, upper_end, exactly, at_most}
 use Rattle.readings.specs.Claims.{StandsFor}
 use Rattle.readings.specs.declared.Tenths.{Tenths}
-use Rattle.readings.specs.declared.UpperEnd.{UpperEnd}
-use Rattle.readings.specs.declared.Judged.TheVariants.{Good}
 use Rattle.readings.proofs.Claimed.{whole_limits, each_at_most}
 use Rattle.lead.specs.Figures.{most_volts, most_amperes, discharged_volts, residual_amperes, ramp_down_end}
-use Rattle.lead.specs.Questions.{volts_range, amperes_range, meter_of, threshold_now, view_of, questions}
-use Rattle.lead.specs.Moves.{moves}
-use Rattle.lead.specs.Claims.{VoltsAsWhole, WorkedVolts, worked_volts, EachValue, EachValuePasses}
+use Rattle.lead.specs.Questions.{volts_range, amperes_range, meter_of, unless_bad, threshold_now, view_of, questions}
+use Rattle.lead.specs.Moves.{discharged, ramped_down, if_good, moves}
+use Rattle.lead.specs.Claims.{VoltsAsWhole, WorkedVolts, worked_volts, with_volts, with_amperes, EachValue, EachValuePasses}
 use Rattle.lead.specs.declared.state.Ratings.{Ratings}
 use Rattle.lead.specs.declared.state.Input.{Input}
 use Rattle.lead.specs.declared.state.HeardLead.{HeardLead}
+use Rattle.lead.specs.declared.questions.Meter.{Meter}
 use Rattle.lead.specs.declared.questions.View.{View}
 
 pub volts_as_whole : VoltsAsWhole
@@ -33,16 +32,16 @@ volts_as_whole c i heard volts amperes v a n exact allowed good reads whole =
       out_of_9 = rw (reads, exact) (within 10);
     }
 
--- what is judged of the volts of a good reading, without current and resistance
-abbrev volts_of : WorkedVolts → UpperEnd
-volts_of case =
-    (meter_of (record { volts = case.error; amperes = 0 }) (judged_of (reading_of true case.bits) (reading_of true 0) 0)).volts
+-- what is judged of the volts, without current and resistance
+abbrev meter_at : WorkedVolts → Option Meter
+meter_at case = meter_of (record { volts = case.error; amperes = 0 }) (judged_of (reading_of true case.bits) (reading_of true 0) 0)
 
-pub worked_fits : map (λ case. at_most (volts_of case) (most_volts 400)) worked_volts ≡ map (λ case. case.fits) worked_volts
+pub worked_fits :
+    map (λ case. unless_bad (λ meter. at_most meter.volts (most_volts 400)) (meter_at case)) worked_volts ≡ map (λ case. case.fits) worked_volts
 unfolding in_range connector_volts in_tenths least of_bits of_int le lt eq mul sub
 worked_fits = refl
 
-pub worked_discharged : map (λ case. at_most (volts_of case) discharged_volts) worked_volts ≡ map (λ case. case.discharged) worked_volts
+pub worked_discharged : map (λ case. unless_bad discharged (meter_at case)) worked_volts ≡ map (λ case. case.discharged) worked_volts
 unfolding in_range connector_volts in_tenths least of_bits of_int le lt eq mul sub
 worked_discharged = refl
 
@@ -53,26 +52,37 @@ in_its_place true met true old f t = tt
 in_its_place true true false old f t = absurd (f tt)
 in_its_place true false false old f t = t
 
-module _ (c : Ratings) (i : Input) (heard : HeardLead) (volts amperes : Tenths) (reads : i.reading ≡ Good volts amperes) where
+module _
+    (c : Ratings) (i : Input) (heard : HeardLead) (volts amperes : Tenths)
+    (reads : i.reading ≡ Some (record { volts = volts; amperes = amperes })) where
+  abbrev v : View
+  v = view_of c i heard
+
   -- the limits that the tick's figures meet are met by each value
   volts_pass :
       (x most : Tenths)
       → StandsFor (volts_range c.errors volts) x
-      → T (at_most (view_of c i heard).meter.volts most)
-      → T (at_most (upper_end (exactly x)) most)
+      → T (unless_bad (λ meter. at_most meter.volts most) v.meter)
+      → T (unless_bad (λ meter. at_most meter.volts most) (with_volts x v).meter)
   unfolding view_of
-  volts_pass x most stands passes = (each_at_most (volts_range c.errors volts) most).each (rw reads at passes) x stands
+  volts_pass x most stands passes = rw reads ((each_at_most (volts_range c.errors volts) most).each (rw reads at passes) x stands)
 
   amperes_pass :
       (x most : Tenths)
       → StandsFor (amperes_range c.errors amperes) x
-      → T (at_most (view_of c i heard).meter.amperes most)
-      → T (at_most (upper_end (exactly x)) most)
+      → T (unless_bad (λ meter. at_most meter.amperes most) v.meter)
+      → T (unless_bad (λ meter. at_most meter.amperes most) (with_amperes x v).meter)
   unfolding view_of
-  amperes_pass x most stands passes = (each_at_most (amperes_range c.errors amperes) most).each (rw reads at passes) x stands
+  amperes_pass x most stands passes = rw reads ((each_at_most (amperes_range c.errors amperes) most).each (rw reads at passes) x stands)
 
-  abbrev v : View
-  v = view_of c i heard
+  good_volts_pass :
+      (x : Tenths)
+      → StandsFor (volts_range c.errors volts) x
+      → T (if_good discharged v.meter)
+      → T (if_good discharged (with_volts x v).meter)
+  unfolding view_of
+  good_volts_pass x stands passes =
+      rw reads ((each_at_most (volts_range c.errors volts) discharged_volts).each (rw reads at passes) x stands)
 
   passes_each : EachValue c i heard volts amperes
   unfolding questions moves
@@ -83,14 +93,10 @@ module _ (c : Ratings) (i : Input) (heard : HeardLead) (volts amperes : Tenths) 
         out_of_4 = λ x. volts_pass x discharged_volts;
         out_of_7 =
             λ x stands.
-            in_its_place (eqb heard.lead.command 0) (at_most v.meter.amperes residual_amperes)
-            (at_most (upper_end (exactly x)) residual_amperes) (leb ramp_down_end heard.lead.stage.age)
+            in_its_place (eqb heard.lead.command 0) (unless_bad ramped_down v.meter) (unless_bad ramped_down (with_amperes x v).meter)
+            (leb ramp_down_end heard.lead.stage.age)
             (amperes_pass x residual_amperes stands);
-        out_of_9 =
-            λ x stands passes.
-            and_i v.meter.good (at_most (upper_end (exactly x)) discharged_volts)
-            (and_l v.meter.good (at_most v.meter.volts discharged_volts) passes)
-            (volts_pass x discharged_volts stands (and_r v.meter.good (at_most v.meter.volts discharged_volts) passes));
+        out_of_9 = good_volts_pass;
       }
 
 pub each_value : EachValuePasses

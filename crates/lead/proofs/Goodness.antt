@@ -146,7 +146,7 @@ module _
   all_seen = car.battery.seen && car.time.seen && car.status.seen
 
   abbrev enough : Bool
-  enough = leb least_volts car.battery.maximum
+  enough = leb least_volts car.battery.value
 
   abbrev target : Bool
   target = leb least_volts car.status.value.target
@@ -165,13 +165,13 @@ module _
       (and_l car.battery.seen car.time.seen (and_l (car.battery.seen && car.time.seen) car.status.seen seen_all))
       (and_r (car.battery.seen && car.time.seen) car.status.seen seen_all)
 
-  battery_range : least_volts ≤ car.battery.maximum
+  battery_range : least_volts ≤ car.battery.value
   battery_range =
       let asked : T (between 1 6 s.stage.phase) = between_of 1 6 s.stage.phase (omega arith) (omega arith) in
       let answer : T (enough && target && below) = mp (car.battery.seen && car.status.seen) (enough && target && below) (yes.compatible asked) seen_both in
-      leb→le least_volts car.battery.maximum (and_l enough target (and_l (enough && target) below answer))
+      leb→le least_volts car.battery.value (and_l enough target (and_l (enough && target) below answer))
 
-  worked_out : threshold_now c (hear i s) ≡ min c.volts car.battery.maximum
+  worked_out : threshold_now c (hear i s) ≡ min c.volts car.battery.value
   unfolding hear
   worked_out = rw (eq-eqb _ _ e)
 

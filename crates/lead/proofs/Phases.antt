@@ -4,42 +4,43 @@ use mathlib.Core.Path.{◌≡◌, refl}
 use Prim.Native.Nat.{ℕ, ◌+◌, ◌≤◌}
 use lib.Dec.{T, leb, eqb}
 use lib.Ieee.Fits.{and_l, and_r}
+use Rattle.std.specs.Prelude.{⊤, Result, Ok, Err}
 use Rattle.common.specs.Tests.{between}
 use Rattle.lead.specs.Names.{no_reason}
 use Rattle.lead.specs.Questions.{reason_of}
 use Rattle.lead.specs.Moves.{next_phase}
-use Rattle.lead.specs.declared.questions.Verdict.{Verdict}
-use Rattle.lead.specs.declared.questions.Verdict.TheVariants.{Pass, Urgent, Ordinary}
+use Rattle.lead.specs.declared.questions.Stop.{Stop}
+use Rattle.lead.specs.declared.questions.Stop.TheVariants.{Urgent, Ordinary}
 use Rattle.common.proofs.Bools.{imp, up_to, up_to_at}
 
-abbrev pub is_pass : Verdict → Bool
-is_pass Pass = true
-is_pass (Urgent number) = false
-is_pass (Ordinary number) = false
+abbrev pub is_pass : Result ⊤ Stop → Bool
+is_pass (Ok done) = true
+is_pass (Err stop) = false
 
-abbrev pub is_urgent : Verdict → Bool
-is_urgent Pass = false
-is_urgent (Urgent number) = true
-is_urgent (Ordinary number) = false
+abbrev pub is_urgent : Result ⊤ Stop → Bool
+is_urgent (Ok done) = false
+is_urgent (Err (Urgent number)) = true
+is_urgent (Err (Ordinary number)) = false
 
-pub pass_reason : (v : Verdict) → T (is_pass v) → reason_of v ≡ no_reason
-pass_reason Pass t = refl
-pass_reason (Urgent number) t = absurd t
-pass_reason (Ordinary number) t = absurd t
+pub pass_reason : (v : Result ⊤ Stop) → T (is_pass v) → reason_of v ≡ no_reason
+pass_reason (Ok done) t = refl
+pass_reason (Err stop) t = absurd t
 
-pub urgent_with : (v : Verdict) → T (is_urgent v) → v ≡ Urgent (reason_of v)
-urgent_with Pass t = absurd t
-urgent_with (Urgent number) t = refl
-urgent_with (Ordinary number) t = absurd t
+pub urgent_with : (v : Result ⊤ Stop) → T (is_urgent v) → v ≡ Err (Urgent (reason_of v))
+urgent_with (Ok done) t = absurd t
+urgent_with (Err (Urgent number)) t = refl
+urgent_with (Err (Ordinary number)) t = absurd t
 
 -- a verdict of each kind, with the number n
-abbrev verdicts : ℕ → (Verdict → Bool) → Bool
-verdicts n f = f Pass && f (Urgent n) && f (Ordinary n)
+abbrev verdicts : ℕ → (Result ⊤ Stop → Bool) → Bool
+verdicts n f = f (Ok tt) && f (Err (Urgent n)) && f (Err (Ordinary n))
 
-verdicts_at : (f : Verdict → Bool) → ((n : ℕ) → T (verdicts n f)) → (v : Verdict) → T (f v)
-verdicts_at f t Pass = and_l (f Pass) (f (Urgent 0)) (and_l (f Pass && f (Urgent 0)) (f (Ordinary 0)) (t 0))
-verdicts_at f t (Urgent n) = and_r (f Pass) (f (Urgent n)) (and_l (f Pass && f (Urgent n)) (f (Ordinary n)) (t n))
-verdicts_at f t (Ordinary n) = and_r (f Pass && f (Urgent n)) (f (Ordinary n)) (t n)
+verdicts_at : (f : Result ⊤ Stop → Bool) → ((n : ℕ) → T (verdicts n f)) → (v : Result ⊤ Stop) → T (f v)
+verdicts_at f t (Ok done) =
+    and_l (f (Ok tt)) (f (Err (Urgent 0))) (and_l (f (Ok tt) && f (Err (Urgent 0))) (f (Err (Ordinary 0))) (t 0))
+verdicts_at f t (Err (Urgent n)) =
+    and_r (f (Ok tt)) (f (Err (Urgent n))) (and_l (f (Ok tt) && f (Err (Urgent n))) (f (Err (Ordinary n))) (t n))
+verdicts_at f t (Err (Ordinary n)) = and_r (f (Ok tt) && f (Err (Urgent n))) (f (Err (Ordinary n))) (t n)
 
 bools_at : (f : Bool → Bool) → T (f true && f false) → (b : Bool) → T (f b)
 bools_at f t true = and_l (f true) (f false) t
@@ -47,10 +48,10 @@ bools_at f t false = and_r (f true) (f false) t
 
 -- a test of a phase, a verdict, whether the move may be made, and the next phase
 abbrev pub Test : Type 0
-Test = ℕ → Verdict → Bool → ℕ → Bool
+Test = ℕ → Result ⊤ Stop → Bool → ℕ → Bool
 
 abbrev pub Everywhere : Test → Type 0
-Everywhere f = (p : ℕ) → p ≤ 10 → (v : Verdict) (may : Bool) → T (f p v may (next_phase p v may))
+Everywhere f = (p : ℕ) → p ≤ 10 → (v : Result ⊤ Stop) (may : Bool) → T (f p v may (next_phase p v may))
 
 everywhere :
     (f : Test)

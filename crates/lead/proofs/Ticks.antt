@@ -7,22 +7,22 @@ use lib.Dec.{T, leb, eqb, eqb→eq}
 use lib.ListN.{get_or}
 use lib.Ieee.Fits.{and_r}
 use borrow.Author.Tests.{eq-eqb, ne_eqb}
-use Rattle.readings.specs.Readings.{at_most}
+use Rattle.std.specs.Prelude.{⊤, Result, is_some}
 use Rattle.frames.specs.Heard.{signals_of}
 use Rattle.common.specs.Tests.{between}
 use Rattle.lead.specs.Names.{handshake, locking, no_reason}
 use Rattle.lead.specs.Leads.{blank}
 use Rattle.lead.specs.Hearing.{hear}
-use Rattle.lead.specs.Figures.{discharged_volts, residual_amperes, ramp_down_end, weld_check_end}
-use Rattle.lead.specs.Questions.{meter_of, is_present, threshold_now, view_of, reason_of, verdict}
-use Rattle.lead.specs.Moves.{moves, may_move, next_phase, reason_after, age_after, go_on, advance, decide}
+use Rattle.lead.specs.Figures.{ramp_down_end, weld_check_end}
+use Rattle.lead.specs.Questions.{meter_of, unless_bad, threshold_now, view_of, reason_of, verdict}
+use Rattle.lead.specs.Moves.{discharged, ramped_down, if_good, moves, may_move, next_phase, reason_after, age_after, go_on, advance, decide}
 use Rattle.lead.specs.declared.state.Lead.{Lead}
 use Rattle.lead.specs.declared.state.HeardLead.{HeardLead}
 use Rattle.lead.specs.declared.state.Car.{Car}
 use Rattle.lead.specs.declared.state.Ratings.{Ratings}
 use Rattle.lead.specs.declared.state.Input.{Input}
 use Rattle.lead.specs.declared.questions.View.{View}
-use Rattle.lead.specs.declared.questions.Verdict.{Verdict}
+use Rattle.lead.specs.declared.questions.Stop.{Stop}
 use Rattle.common.proofs.Bools.{holds, below}
 
 module _ (c : Ratings) (i : Input) (s : Lead) where
@@ -49,16 +49,14 @@ pub record MoveMet (c : Ratings) (i : Input) (s : Lead) (car : Car) : Type 0 whe
       s.stage.phase ≡ 1
       → T (car.battery.seen && car.time.seen && car.status.seen && i.contacts.permission && (signals_of car.status.value).enabled)
   pub out_of_2 : s.stage.phase ≡ 2 → T i.contacts.lock
-  pub out_of_3 : s.stage.phase ≡ 3 → T (is_present i.insulation)
-  pub out_of_4 : s.stage.phase ≡ 4 → T (at_most (meter_of c.errors i.reading).volts discharged_volts)
+  pub out_of_3 : s.stage.phase ≡ 3 → T (is_some i.insulation)
+  pub out_of_4 : s.stage.phase ≡ 4 → T (unless_bad discharged (meter_of c.errors i.reading))
   pub out_of_5 : s.stage.phase ≡ 5 → T (signals_of car.status.value).closed
   pub out_of_7 :
       s.stage.phase ≡ 7
-      → T (eqb s.command 0 && at_most (meter_of c.errors i.reading).amperes residual_amperes || leb ramp_down_end s.stage.age)
+      → T (eqb s.command 0 && unless_bad ramped_down (meter_of c.errors i.reading) || leb ramp_down_end s.stage.age)
   pub out_of_8 : s.stage.phase ≡ 8 → T (not (signals_of car.status.value).closed || leb weld_check_end s.stage.age)
-  pub out_of_9 :
-      s.stage.phase ≡ 9
-      → T ((meter_of c.errors i.reading).good && at_most (meter_of c.errors i.reading).volts discharged_volts)
+  pub out_of_9 : s.stage.phase ≡ 9 → T (if_good discharged (meter_of c.errors i.reading))
   pub out_of_10 : s.stage.phase ≡ 10 → T (not i.contacts.plug)
 
 -- of a lead that has heard, so that its phase can be replaced
@@ -125,7 +123,7 @@ unfolding decide advance go_on hear view_of
 not_started c i s e = record { car = rw e; command = rw e; energy = rw e; threshold = rw e; reason = rw e; age = rw e }
 
 -- up to phase 6 a lead that shows no reason yet shows that of the tick's verdict
-pub reason_shown : (p : ℕ) (v : Verdict) → p ≤ 6 → reason_after p no_reason v ≡ reason_of v
+pub reason_shown : (p : ℕ) (v : Result ⊤ Stop) → p ≤ 6 → reason_after p no_reason v ≡ reason_of v
 unfolding reason_after
 reason_shown p v h = rw (below 7 8 p (omega arith)) (go (eqb (reason_of v) no_reason) refl)
   where

@@ -2,22 +2,19 @@
 use mathlib.Core.Bool.{Bool, true, false}
 use mathlib.Core.Path.{◌≡◌, refl, sym, ◌∙◌}
 use Prim.Native.Nat.{ℕ, zero, suc, ◌*◌, ◌/◌, ◌≤◌, ◌<◌, min}
-use native.Mathlib.Nat.{mul-le-mul, mul_comm, div-zero, div-le_of_le-mul, le-div_iff_mul-le, mul-div_cancel, min-eq_left}
+use native.Mathlib.Nat.{mul_comm, div-zero, div-le_of_le-mul, le-div_iff_mul-le, mul-div_cancel, min-eq_left}
 use native.Mathlib.Omega.{arith}
 use lib.Dec.{leb}
 use borrow.Author.Tests.{leb-true, leb-false}
 
-pub watts_fit : (amperes volts : ℕ) → amperes ≤ 255 → volts ≤ 65535 → amperes * volts < 4294967296
-watts_fit amperes volts a v = let h : amperes * volts ≤ 255 * 65535 = mul-le-mul a v in omega arith
-
 module _ (amperes volts level : ℕ) where
-  pub met : (volts ≡ 0 → ⊥) → amperes * volts ≤ level → amperes ≡ min (amperes * volts) level / volts
+  met : (volts ≡ 0 → ⊥) → amperes * volts ≤ level → amperes ≡ min (amperes * volts) level / volts
   met n h = rw (min-eq_left h) (sym (mul-div_cancel amperes (omega arith)))
 
-  pub unmet : level < amperes * volts → level / volts ≡ min (amperes * volts) level / volts
+  unmet : level < amperes * volts → level / volts ≡ min (amperes * volts) level / volts
   unmet h = let e : min (amperes * volts) level ≡ level = omega arith in rw e
 
-  pub unmet_most : level < amperes * volts → level / volts ≤ amperes
+  unmet_most : level < amperes * volts → level / volts ≤ amperes
   unmet_most h = div-le_of_le-mul volts (omega (arith, mul_comm amperes volts))
 
 -- what the smaller of a want and a level carries is the smaller of that want and what the level carries

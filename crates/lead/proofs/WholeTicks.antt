@@ -7,6 +7,7 @@ use native.Mathlib.Omega.{arith}
 use lib.Dec.{T, eqb, leb→le, ltb→lt, eqb→eq}
 use lib.Ieee.Fits.{and_i, and_l, and_r}
 use borrow.Author.Tests.{eq-eqb}
+use Rattle.std.specs.Prelude.{⊤, Result}
 use Rattle.frames.specs.Heard.{signals_of}
 use Rattle.common.specs.Tests.{between}
 use Rattle.lead.specs.Figures.{most_energy}
@@ -19,7 +20,7 @@ use Rattle.lead.specs.declared.state.Stage.{Stage}
 use Rattle.lead.specs.declared.state.Car.{Car}
 use Rattle.lead.specs.declared.state.Ratings.{Ratings}
 use Rattle.lead.specs.declared.state.Input.{Input}
-use Rattle.lead.specs.declared.questions.Verdict.{Verdict}
+use Rattle.lead.specs.declared.questions.Stop.{Stop}
 use Rattle.common.proofs.Bools.{holds, is_true, imp, mp, between_of, between_lo, between_hi, at_or_past}
 use Rattle.lead.proofs.Phases as phases
 use Rattle.lead.proofs.Phases.{is_pass, is_urgent}
@@ -54,7 +55,7 @@ module _ (c : Ratings) (i : Input) (s : Lead) (p≤ : s.stage.phase ≤ 10) wher
   abbrev q : ℕ
   q = phase_after c i s
 
-  abbrev v : Verdict
+  abbrev v : Result ⊤ Stop
   v = verdict c i s
 
   abbrev m : Bool

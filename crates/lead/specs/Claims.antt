@@ -1,11 +1,9 @@
 -- Requests 2026-04 and 2026-08: what they say of questions and moves. Definitions only.
-use Rattle.std.specs.Prelude.{Bool, true, false, List, [], ◌∷◌, ◌≡◌, ℕ, ◌-◌, T, leb, Float, get_or}
+use Rattle.std.specs.Prelude.{Bool, true, false, List, [], ◌∷◌, ◌≡◌, ℕ, ◌-◌, T, leb, Float, get_or, Option, Some, option_map}
 use Rattle.common.specs.Tests.{between}
 use Rattle.readings.specs.Readings.{judged_of, allowed_resistance, upper_end, exactly}
 use Rattle.readings.specs.Claims.{IsLeast, connector_of, StandsFor}
-use Rattle.readings.specs.declared.Reading.TheVariants.{Value}
 use Rattle.readings.specs.declared.Tenths.{Tenths}
-use Rattle.readings.specs.declared.Judged.TheVariants.{Good}
 use Rattle.lead.specs.Names.{test_discharge, ramp_down, final_discharge, overvoltage, overcurrent}
 use Rattle.lead.specs.Questions.{volts_range, amperes_range, threshold_now, view_of, Question, questions, no_question}
 use Rattle.lead.specs.Moves.{moves}
@@ -28,8 +26,8 @@ VoltsAsWhole =
     (c : Ratings) (i : Input) (heard : HeardLead) (volts amperes : Float) (v a : Tenths) (n : ℕ)
     → c.errors.volts ≡ 0
     → allowed_resistance c.resistance ≡ true
-    → judged_of (Value volts) (Value amperes) c.resistance ≡ Good v a
-    → i.reading ≡ Good v a
+    → judged_of (Some volts) (Some amperes) c.resistance ≡ Some (record { volts = v; amperes = a })
+    → i.reading ≡ Some (record { volts = v; amperes = a })
     → IsLeast 1 (connector_of volts amperes c.resistance) n
     → OnWholeVolts c i heard n
 
@@ -55,7 +53,7 @@ worked_volts =
     ∷ []
 
 -- a tick's view with another meter
-abbrev with_meter : Meter → View → View
+abbrev with_meter : Option Meter → View → View
 with_meter meter v =
     record {
       contacts = v.contacts;
@@ -70,12 +68,12 @@ with_meter meter v =
       time = v.time;
     }
 
--- 2026-08: with exactly this value in the place of the reading's volts, and of its amperes
+-- 2026-08: with exactly this value in the place of a good reading's volts, and of its amperes
 abbrev pub with_volts : Tenths → View → View
-with_volts x v = with_meter (record { good = v.meter.good; volts = upper_end (exactly x); amperes = v.meter.amperes }) v
+with_volts x v = with_meter (option_map (λ (meter : Meter). record { volts = upper_end (exactly x); amperes = meter.amperes }) v.meter) v
 
 abbrev pub with_amperes : Tenths → View → View
-with_amperes x v = with_meter (record { good = v.meter.good; volts = v.meter.volts; amperes = upper_end (exactly x) }) v
+with_amperes x v = with_meter (option_map (λ (meter : Meter). record { volts = meter.volts; amperes = upper_end (exactly x) }) v.meter) v
 
 -- question n is asked in the lead's phase, and the answer is yes
 abbrev pub Passes : ℕ → View → HeardLead → Type 0
@@ -110,5 +108,5 @@ module _ (c : Ratings) (i : Input) (heard : HeardLead) (volts amperes : Tenths) 
 abbrev pub EachValuePasses : Type 0
 EachValuePasses =
     (c : Ratings) (i : Input) (heard : HeardLead) (volts amperes : Tenths)
-    → i.reading ≡ Good volts amperes
+    → i.reading ≡ Some (record { volts = volts; amperes = amperes })
     → EachValue c i heard volts amperes

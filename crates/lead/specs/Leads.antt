@@ -16,7 +16,7 @@ blank p =
       threshold = 0;
       car =
           record {
-            battery = record { seen = false; maximum = 0 };
+            battery = record { seen = false; value = 0 };
             time = record { seen = false; value = time_of 0 0 };
             status = record { seen = false; value = record { target = 0; request = 0; faults = 0; flags = 0 } };
             silence = 0;

@@ -1,17 +1,13 @@
 -- Document 01, 'Stop questions': the nineteen questions and the first no. Definitions only.
-use Rattle.std.specs.Prelude.{Bool, true, false, not, cond, ◌&&◌, ◌||◌, List, [], ◌∷◌, ℕ, ◌-◌, min, leb, ltb, eqb, get_or, drop}
+use Rattle.std.specs.Prelude.{Bool, true, false, not, cond, ◌&&◌, ◌||◌, List, [], ◌∷◌, ℕ, ◌-◌, min, leb, ltb, eqb, get_or, drop, ⊤, Option, Some, None, is_some, Result, Ok, Err}
 use Rattle.common.specs.Tests.{between}
 use Rattle.readings.specs.Readings.{ValueRange, upper_end, at_most, insulated}
-use Rattle.readings.specs.declared.Reading.{Reading}
-use Rattle.readings.specs.declared.Reading.TheVariants.{Value, Missing}
 use Rattle.readings.specs.declared.Tenths.{Tenths}
 use Rattle.readings.specs.declared.MeterErrors.{MeterErrors}
-use Rattle.readings.specs.declared.Judged.{Judged}
-use Rattle.readings.specs.declared.Judged.TheVariants.{Good, Bad}
+use Rattle.readings.specs.declared.Measured.{Measured}
 use Rattle.frames.specs.Times.{charging_ticks}
 use Rattle.frames.specs.Heard.{signals_of}
-use Rattle.frames.specs.declared.heard.StatusFrame.{StatusFrame}
-use Rattle.frames.specs.declared.heard.StatusFrame.TheVariants.{Heard, Absent}
+use Rattle.frames.specs.declared.heard.VehicleStatus.{VehicleStatus}
 use Rattle.lead.specs.Names.{handshake, no_reason, emergency_button, unplugged, ground_fault, permission_open, bad_reading, overvoltage, overcurrent, unlocked, car_silent, car_fault, incompatible_voltage, not_in_park, not_enabled, stop_request, contactor_open, stop_button, low_insulation, phase_timeout, charging_time_over}
 use Rattle.lead.specs.Figures.{most_volts, most_amperes, least_volts, silence_end}
 use Rattle.lead.specs.Hearing.{hear}
@@ -21,8 +17,8 @@ use Rattle.lead.specs.declared.state.Ratings.{Ratings}
 use Rattle.lead.specs.declared.state.Input.{Input}
 use Rattle.lead.specs.declared.questions.Meter.{Meter}
 use Rattle.lead.specs.declared.questions.View.{View}
-use Rattle.lead.specs.declared.questions.Verdict.{Verdict}
-use Rattle.lead.specs.declared.questions.Verdict.TheVariants.{Pass, Urgent, Ordinary}
+use Rattle.lead.specs.declared.questions.Stop.{Stop}
+use Rattle.lead.specs.declared.questions.Stop.TheVariants.{Urgent, Ordinary}
 
 -- 2026-08: "For connector volts the range is their tenths with the volts' e alone; the amperes' e judges amperes only."
 abbrev pub volts_range : MeterErrors → Tenths → ValueRange
@@ -32,25 +28,27 @@ abbrev pub amperes_range : MeterErrors → Tenths → ValueRange
 amperes_range errors amperes = record { tenths = amperes; error = errors.amperes }
 
 -- What is judged of a good reading. 2026-08: "Questions 16 and 17, both 10 V limits and the end of phase 7 judge the upper end."
-abbrev pub meter_of : MeterErrors → Judged → Meter
-meter_of errors (Good volts amperes) =
-    record { good = true; volts = upper_end (volts_range errors volts); amperes = upper_end (amperes_range errors amperes) }
-meter_of errors Bad = record { good = false; volts = record { 0 = 0 }; amperes = record { 0 = 0 } }
+abbrev pub meter_of : MeterErrors → Option Measured → Option Meter
+meter_of errors (Some m) =
+    Some (record { volts = upper_end (volts_range errors m.volts); amperes = upper_end (amperes_range errors m.amperes) })
+meter_of errors None = None
 
-abbrev pub is_present : Reading → Bool
-is_present (Value x) = true
-is_present Missing = false
+-- A limit on what is judged. A bad reading has nothing that could be above it, and is question 15's: "15 Reading good? (3–7)" has stopped it
+-- where 16 and 17 are asked and before the moves out of 4 and 7.
+abbrev pub unless_bad : (Meter → Bool) → Option Meter → Bool
+unless_bad limit (Some meter) = limit meter
+unless_bad limit None = true
 
 -- 2026-06: "an H'102 counted in this tick with enabled clear"
-abbrev pub revokes : StatusFrame → Bool
-revokes (Heard sent) = not (signals_of sent).enabled
-revokes Absent = false
+abbrev pub revokes : Option VehicleStatus → Bool
+revokes (Some sent) = not (signals_of sent).enabled
+revokes None = false
 
 -- "The threshold is the smaller of rated volts and maximum battery voltage. In phase 1 question 21 works it out"
 abbrev pub threshold_now : Ratings → HeardLead → ℕ
 threshold_now c heard =
     let s : Lead = heard.lead in
-    cond (eqb s.stage.phase handshake) (min c.volts s.car.battery.maximum) s.threshold
+    cond (eqb s.stage.phase handshake) (min c.volts s.car.battery.value) s.threshold
 
 -- question 28: "100, 20, 150, 50, 100 in phases 1 to 5", by phase
 abbrev pub ticks_allowed : List ℕ
@@ -63,10 +61,10 @@ view_of c i heard =
       contacts = i.contacts;
       meter = meter_of c.errors i.reading;
       signals = signals_of heard.lead.car.status.value;
-      revoked = revokes i.status;
+      revoked = revokes i.frames.status;
       rated = c.amperes;
       threshold = threshold_now c heard;
-      present = is_present i.insulation;
+      present = is_some i.insulation;
       insulated = insulated (threshold_now c heard) i.insulation;
       allowed = get_or ticks_allowed heard.lead.stage.phase 0;
       time = charging_ticks heard.lead.car.time.value;
@@ -118,11 +116,11 @@ questions v heard =
     -- "14 Permission closed? (2–7)"; where the car's H'102 of the tick says no too its no gives 23 (2026-06)
     ∷ giving (opened_reason s.stage.phase v.revoked) (urgent_row permission_open 2 7 v.contacts.permission)
     -- "15 Reading good? (3–7)"
-    ∷ urgent_row bad_reading 3 7 v.meter.good
+    ∷ urgent_row bad_reading 3 7 (is_some v.meter)
     -- "16 Connector volts", their upper end (2026-08), "at most the threshold? (5–7)"
-    ∷ urgent_row overvoltage 5 7 (at_most v.meter.volts (most_volts v.threshold))
+    ∷ urgent_row overvoltage 5 7 (unless_bad (λ meter. at_most meter.volts (most_volts v.threshold)) v.meter)
     -- "17 Amperes", their upper end (2026-08), "at most rated" + 2.5 (2026-04)? "(5–7)"
-    ∷ urgent_row overcurrent 5 7 (at_most v.meter.amperes (most_amperes v.rated))
+    ∷ urgent_row overcurrent 5 7 (unless_bad (λ meter. at_most meter.amperes (most_amperes v.rated)) v.meter)
     -- "18 Lock contact closed? (3–7)"
     ∷ urgent_row unlocked 3 7 v.contacts.lock
     -- "19 Silence below 10? (2–6)"
@@ -132,7 +130,7 @@ questions v heard =
     -- "21 Maximum voltage at least 50, target from 50 to the threshold? (1–6, once H'100 and H'102 are seen)"
     ∷ ordinary_row incompatible_voltage 1 6
     (once (s.car.battery.seen && s.car.status.seen)
-    (leb least_volts s.car.battery.maximum
+    (leb least_volts s.car.battery.value
     && leb least_volts s.car.status.value.target
     && leb s.car.status.value.target v.threshold))
     -- "22 In park? (1–6)"
@@ -161,29 +159,29 @@ questions_from n v heard = drop (n - 11) (questions v heard)
 abbrev pub is_no : ℕ → Question → Bool
 is_no p q = between q.first q.last p && not q.answer
 
-abbrev pub stop_of : Question → Verdict
+abbrev pub stop_of : Question → Stop
 stop_of q = cond q.urgent (Urgent q.reason) (Ordinary q.reason)
 
 -- "The first "no" is the stop."
-abbrev pub first_no : ℕ → List Question → Verdict
-first_no p [] = Pass
-first_no p (q ∷ rows) = cond (is_no p q) (stop_of q) (first_no p rows)
+abbrev pub first_no : ℕ → List Question → Result ⊤ Stop
+first_no p [] = Ok tt
+first_no p (q ∷ rows) = cond (is_no p q) (Err (stop_of q)) (first_no p rows)
 
-unfoldable pub ask : View → HeardLead → Verdict
+unfoldable pub ask : View → HeardLead → Result ⊤ Stop
 ask v heard = first_no heard.lead.stage.phase (questions v heard)
 
 -- the document's number for each verdict
-abbrev pub reason_of : Verdict → ℕ
-reason_of Pass = no_reason
-reason_of (Urgent reason) = reason
-reason_of (Ordinary reason) = reason
+abbrev pub reason_of : Result ⊤ Stop → ℕ
+reason_of (Ok done) = no_reason
+reason_of (Err (Urgent reason)) = reason
+reason_of (Err (Ordinary reason)) = reason
 
 -- past the last question: one that never gets a no
 abbrev pub no_question : Question
 no_question = ordinary_row no_reason 0 0 true
 
 -- the verdict of a tick, by the lead before it
-abbrev pub verdict : Ratings → Input → Lead → Verdict
+abbrev pub verdict : Ratings → Input → Lead → Result ⊤ Stop
 verdict c i s = ask (view_of c i (hear i s)) (hear i s)
 
 -- question n is asked in the tick and gets a no

@@ -26,7 +26,7 @@ impl Figure {
     pub const WELD_CHECK_END: u32 = 40;
 
     // The want in 6 and in 7, in amperes a tick.
-    pub const RAISE: u16 = 2;
+    pub const RAISE: u8 = 2;
 
     pub const FALL: u8 = 10;
 }

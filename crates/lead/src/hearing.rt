@@ -1,88 +1,59 @@
 // Taking a tick's frames. What a frame said remains until the next of its kind.
 ghost use Rattle.std.specs.Prelude.{◌≡◌};
-ghost use Rattle.lead.specs.Hearing.{hear_battery, hear_time, hear_status, silence_after, hear_car, hear};
+ghost use Rattle.lead.specs.Hearing.{hear_known, silence_after, hear_car, hear};
 
 use super::names::Phase;
-use super::state::{Car, HeardLead, Input, KnownBattery, KnownStatus, KnownTime, Lead};
-use frames::{BatteryFrame, StatusFrame, TimeFrame};
+use super::state::{Car, HeardLead, Input, Known, Lead, Stage};
+use frames::VehicleStatus;
 
-impl KnownBattery {
-    fn hear(self, frame: BatteryFrame) -> KnownBattery
-        ensures { result ≡ hear_battery frame self }
+impl<T: Copy> Known<T> {
+    #[tactic(auto, unfolding(crate::specs::Hearing::hear_known))]
+    fn hear(self, frame: Option<T>) -> Known<T>
+        ensures { result ≡ hear_known frame self }
     {
         match frame {
-            BatteryFrame::Heard(maximum) => KnownBattery {
-                seen: true,
-                maximum,
-            },
-            BatteryFrame::Absent => self,
-        }
-    }
-}
-
-impl KnownTime {
-    fn hear(self, frame: TimeFrame) -> KnownTime
-        ensures { result ≡ hear_time frame self }
-    {
-        match frame {
-            TimeFrame::Heard(value) => KnownTime { seen: true, value },
-            TimeFrame::Absent => self,
-        }
-    }
-}
-
-impl KnownStatus {
-    fn hear(self, frame: StatusFrame) -> KnownStatus
-        ensures { result ≡ hear_status frame self }
-    {
-        match frame {
-            StatusFrame::Heard(value) => KnownStatus { seen: true, value },
-            StatusFrame::Absent => self,
+            Some(value) => Known { seen: true, value },
+            None => self,
         }
     }
 }
 
 // Ticks without an H'102, at most 255.
-fn silence_after(frame: StatusFrame, silence: u8) -> u8
+#[tactic(auto, unfolding(crate::specs::Hearing::silence_after))]
+fn silence_after(frame: Option<VehicleStatus>, silence: u8) -> u8
     ensures { result ≡ silence_after frame silence }
 {
     match frame {
-        StatusFrame::Heard(_) => 0,
-        StatusFrame::Absent => { if silence < 255 { silence + 1 } else { 255 } }
+        Some(_) => 0,
+        None => silence.saturating_add(1),
     }
 }
 
 impl Car {
-    fn hear(mut self, phase: u8, input: Input) -> Car
-        ensures { result ≡ hear_car phase input self }
+    #[tactic(auto, unfolding(crate::specs::Hearing::hear_car))]
+    fn hear(mut self, stage: Stage, input: Input) -> Car
+        ensures { result ≡ hear_car stage.phase input self }
     {
-        let listening = (Phase::HANDSHAKE <= phase) & (phase <= Phase::WELD_CHECK);
-        if !listening {
+        if !stage.is_between(Phase::HANDSHAKE, Phase::WELD_CHECK) {
             return self;
         }
-        let heard = input.status;
-        let status = self.status;
-        self.status = status.hear(heard);
-        self.silence = silence_after(heard, self.silence);
-        if phase != Phase::HANDSHAKE {
+        self.status = self.status.hear(input.frames.status);
+        self.silence = silence_after(input.frames.status, self.silence);
+        if stage.phase != Phase::HANDSHAKE {
             return self;
         }
-        let battery = self.battery;
-        let time = self.time;
-        let battery_frame = input.battery;
-        let time_frame = input.time;
-        self.battery = battery.hear(battery_frame);
-        self.time = time.hear(time_frame);
+        self.battery = self.battery.hear(input.frames.battery);
+        self.time = self.time.hear(input.frames.time);
         self
     }
 }
 
 impl Lead {
+    #[tactic(auto, unfolding(crate::specs::Hearing::hear))]
     pub(crate) fn hear(mut self, input: Input) -> HeardLead
         ensures { result ≡ hear input self }
     {
-        let car = self.car;
-        self.car = car.hear(self.stage.phase, input);
+        self.car = self.car.hear(self.stage, input);
         HeardLead { lead: self }
     }
 }

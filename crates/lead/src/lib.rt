@@ -7,13 +7,10 @@ mod good;
 mod hearing;
 mod moves;
 mod names;
-mod numbers;
 mod power;
 mod questions;
 mod state;
 
 pub use names::{Phase, Reason};
-pub use questions::{Meter, Verdict, View};
-pub use state::{
-    Car, Contacts, HeardLead, Input, KnownBattery, KnownStatus, KnownTime, Lead, Ratings, Stage,
-};
+pub use questions::{Meter, Stop, View};
+pub use state::{Car, Contacts, HeardLead, Input, Known, Lead, Ratings, Stage};

@@ -1,14 +1,16 @@
 // Moves, and where a stop leads: a lead's tick but for its command and the energy that this adds.
-ghost use Rattle.std.specs.Prelude.{◌≡◌, cond};
+ghost use Rattle.std.specs.Prelude.{◌≡◌};
 ghost use Rattle.lead.specs.Moves.{may_move, exits_of, next_phase, reason_after, age_after, go_on, advance, decide};
 
 use super::figures::Figure;
 use super::names::{Phase, Reason};
-use super::questions::{Verdict, View};
+use super::questions::{Meter, Stop, View, reason_of};
 use super::state::{HeardLead, Input, Lead, Ratings, Stage};
 
 impl HeardLead {
-    // What the move out of each phase wants; 6 has none.
+    // What the move out of each phase wants; 6 has none. A bad reading passes the limits of 4 and 7, and not that of 9, which wants a good one.
+    // Kept: a `match` with a row for each phase, as the document has them; closures in a table would be the same rows, and looked up by index.
+    #[tactic(auto, unfolding(crate::specs::Moves::may_move, crate::specs::Moves::moves))]
     fn may_move(self, view: View) -> bool
         ensures { result ≡ may_move view self }
     {
@@ -30,37 +32,43 @@ impl HeardLead {
             }
             2 => contacts.lock,
             3 => view.present,
-            4 => meter.is_discharged(),
+            4 => meter.is_none_or(Meter::is_discharged),
             5 => signals.closed,
             6 => false,
-            7 => ((lead.command == 0) & meter.is_ramped_down()) | (Figure::RAMP_DOWN_END <= age),
+            7 => {
+                ((lead.command == 0) & meter.is_none_or(Meter::is_ramped_down))
+                    | (Figure::RAMP_DOWN_END <= age)
+            }
             8 => !signals.closed | (Figure::WELD_CHECK_END <= age),
-            9 => meter.good & meter.is_discharged(),
+            9 => meter.is_some_and(Meter::is_discharged),
             10 => !contacts.plug,
             _ => false,
         }
     }
 
     // A lead that is not started: its threshold is kept on the move to 2, outside 6 and 7 its command is 0.
-    fn go_on(self, view: View, verdict: Verdict, phase: u8) -> Lead
+    #[tactic(auto, unfolding(crate::specs::Moves::go_on))]
+    fn go_on(self, view: View, verdict: Result<(), Stop>, phase: u8) -> Lead
         ensures { result ≡ go_on view verdict phase self }
     {
         let mut lead = self.lead;
         let before = lead.stage;
-        let keeps = (before.phase == Phase::HANDSHAKE) & (phase == Phase::LOCKING);
-        let powered = (Phase::CHARGING <= phase) & (phase <= Phase::RAMP_DOWN);
-        lead.threshold = volts_if(keeps, view.threshold, lead.threshold);
-        lead.command = amperes_if(powered, lead.command);
-        let stage = Stage {
+        lead.stage = Stage {
             phase,
-            reason: reason_after(before.phase, before.reason, verdict),
-            age: age_after(before.phase, phase, before.age),
+            reason: before.reason_after(verdict),
+            age: before.age_after(phase),
         };
-        lead.stage = stage;
+        if (before.phase == Phase::HANDSHAKE) & (phase == Phase::LOCKING) {
+            lead.threshold = view.threshold;
+        }
+        if !lead.stage.is_between(Phase::CHARGING, Phase::RAMP_DOWN) {
+            lead.command = 0;
+        }
         lead
     }
 
-    fn advance(self, view: View, verdict: Verdict) -> Lead
+    #[tactic(auto, unfolding(crate::specs::Moves::advance))]
+    fn advance(self, view: View, verdict: Result<(), Stop>) -> Lead
         ensures { result ≡ advance view verdict self }
     {
         let before = self.lead.stage.phase;
@@ -74,13 +82,13 @@ impl HeardLead {
 
 impl Lead {
     // A tick but for the command and the energy that this adds.
+    #[tactic(auto, unfolding(crate::specs::Moves::decide))]
     pub fn decide(self, ratings: Ratings, input: Input) -> Lead
         ensures { result ≡ decide ratings input self }
     {
         let heard = self.hear(input);
         let view = heard.view(ratings, input);
-        let verdict = heard.ask(view);
-        heard.advance(view, verdict)
+        heard.advance(view, heard.ask(view))
     }
 }
 
@@ -88,6 +96,7 @@ impl Lead {
 #[derive(Clone, Copy)]
 struct Exits(u8, u8, u8);
 
+// Kept: a table of the document under its phase numbers. No step is run by it.
 fn exits_of(phase: u8) -> Exits
     ensures { result ≡ exits_of phase }
 {
@@ -108,48 +117,42 @@ fn exits_of(phase: u8) -> Exits
 }
 
 // The phase after the tick.
-fn next_phase(phase: u8, verdict: Verdict, may: bool) -> u8
+#[tactic(auto, unfolding(crate::specs::Moves::next_phase))]
+fn next_phase(phase: u8, verdict: Result<(), Stop>, may: bool) -> u8
     ensures { result ≡ next_phase phase verdict may }
 {
     let to = exits_of(phase);
     match verdict {
-        Verdict::Pass => { if may { to.0 } else { phase } }
-        Verdict::Urgent(_) => to.1,
-        Verdict::Ordinary(_) => to.2,
+        Ok(()) => { if may { to.0 } else { phase } }
+        Err(Stop::Urgent(_)) => to.1,
+        Err(Stop::Ordinary(_)) => to.2,
     }
 }
 
-// In phases 7 and 8 the reason that was recorded first remains.
-fn reason_after(phase: u8, reason: u8, verdict: Verdict) -> u8
-    ensures { result ≡ reason_after phase reason verdict }
-{
-    let recorded = (Phase::RAMP_DOWN <= phase) & (phase <= Phase::WELD_CHECK);
-    let stop = verdict.reason();
-    if recorded | (stop == Reason::NONE) {
-        reason
-    } else {
-        stop
+impl Stage {
+    // In phases 7 and 8 the reason that was recorded first remains.
+    #[tactic(auto, unfolding(crate::specs::Moves::reason_after))]
+    fn reason_after(self, verdict: Result<(), Stop>) -> u8
+        ensures { result ≡ reason_after self.phase self.reason verdict }
+    {
+        let recorded = self.is_between(Phase::RAMP_DOWN, Phase::WELD_CHECK);
+        let reason = reason_of(verdict);
+        if recorded | (reason == Reason::NONE) {
+            self.reason
+        } else {
+            reason
+        }
     }
-}
 
-// A move or a stop begins anew.
-fn age_after(before: u8, after: u8, age: u32) -> u32
-    ensures { result ≡ age_after before after age }
-{
-    if before == after {
-        return if age < u32::MAX { age + 1 } else { u32::MAX };
+    // A move or a stop begins anew.
+    #[tactic(auto, unfolding(crate::specs::Moves::age_after))]
+    fn age_after(self, phase: u8) -> u32
+        ensures { result ≡ age_after self.phase phase self.age }
+    {
+        if self.phase == phase {
+            self.age.saturating_add(1)
+        } else {
+            0
+        }
     }
-    0
-}
-
-fn volts_if(chosen: bool, volts: u16, other: u16) -> u16
-    ensures { result ≡ cond chosen volts other }
-{
-    if chosen { volts } else { other }
-}
-
-fn amperes_if(chosen: bool, amperes: u8) -> u8
-    ensures { result ≡ cond chosen amperes 0 }
-{
-    if chosen { amperes } else { 0 }
 }

@@ -1,5 +1,7 @@
 // Names for all of document 01's numbers of phases and stop reasons, those that the code has no need of too.
 
+// Kept: numbers, not an enum, as any 32 bytes are read as a lead (`StateRecord::read`, `decode`), and given back (`encode_decode`), phases
+// above 10 too, of which `good_lead` and refusal 6 speak.
 #[derive(Clone, Copy)]
 pub struct Phase;
 
@@ -32,6 +34,7 @@ impl Phase {
 }
 
 // The numbers of the stop questions, which are the stop reasons.
+// Kept: numbers, not an enum, as any byte is read as a reason and given back, as it is with a phase (`good_lead`, refusal 6).
 #[derive(Clone, Copy)]
 pub struct Reason;
 

@@ -1,12 +1,12 @@
 // What a lead remembers, what setup fixed for it, and what it is given in a tick.
 ghost use Rattle.std.specs.Prelude.{◌≡◌};
+ghost use Rattle.common.specs.Tests.{between};
 ghost use Rattle.lead.specs.Leads.{blank, fresh};
 
 use super::names::{Phase, Reason};
-use frames::{
-    BatteryFrame, ChargingTime, Minutes, StatusFrame, TensOfSeconds, TimeFrame, VehicleStatus,
-};
-use readings::{Judged, MeterErrors, Reading};
+use common::is_between;
+use frames::{ChargingTime, HeardFrames, Minutes, TensOfSeconds, VehicleStatus};
+use readings::{Measured, MeterErrors};
 
 // Rated volts and amperes, the cable resistance as its float's bits, and the meters' errors.
 #[derive(Clone, Copy)]
@@ -41,34 +41,22 @@ pub struct Stage {
     pub age: u32,
 }
 
-// What the car's frames said, and for how many ticks no H'102 has come.
+// What the car's frames said, H'100 with its maximum battery voltage in volts, H'101 and H'102, and for how many ticks no H'102 has come.
 #[derive(Clone, Copy)]
 pub struct Car {
-    pub battery: KnownBattery,
-    pub time: KnownTime,
-    pub status: KnownStatus,
+    pub battery: Known<u16>,
+    pub time: Known<ChargingTime>,
+    pub status: Known<VehicleStatus>,
     pub silence: u8,
 }
 
-// H'100: maximum battery voltage in volts. Here as below, `seen` says whether one was heard since the start.
+// What a kind of frame said, and whether one was heard since the start.
+// Kept: a flag beside a value, as a state handed in with the flag clear and a value in its bytes keeps that value: `decode_encode` and
+// `encode_decode` of lead_records, and `StateRecord::read`, which takes any 32 bytes.
 #[derive(Clone, Copy)]
-pub struct KnownBattery {
+pub struct Known<T> {
     pub seen: bool,
-    pub maximum: u16,
-}
-
-// H'101.
-#[derive(Clone, Copy)]
-pub struct KnownTime {
-    pub seen: bool,
-    pub value: ChargingTime,
-}
-
-// H'102.
-#[derive(Clone, Copy)]
-pub struct KnownStatus {
-    pub seen: bool,
-    pub value: VehicleStatus,
+    pub value: T,
 }
 
 // Closed or pressed. `permission` is the charge permission, `leakage` the ground fault (document 01: leak trip).
@@ -87,11 +75,18 @@ pub struct Contacts {
 #[derive(Clone, Copy)]
 pub struct Input {
     pub contacts: Contacts,
-    pub reading: Judged,
-    pub insulation: Reading,
-    pub battery: BatteryFrame,
-    pub time: TimeFrame,
-    pub status: StatusFrame,
+    pub reading: Option<Measured>,
+    pub insulation: Option<f32>,
+    pub frames: HeardFrames,
+}
+
+impl Stage {
+    // The phase is one of these, ends included.
+    pub fn is_between(self, first: u8, last: u8) -> bool
+        ensures { result ≡ between first last self.phase }
+    {
+        is_between(u32::from(first), u32::from(last), u32::from(self.phase))
+    }
 }
 
 impl Lead {
@@ -109,18 +104,18 @@ impl Lead {
             command: 0,
             threshold: 0,
             car: Car {
-                battery: KnownBattery {
+                battery: Known {
                     seen: false,
-                    maximum: 0,
+                    value: 0,
                 },
-                time: KnownTime {
+                time: Known {
                     seen: false,
                     value: ChargingTime {
                         tens: TensOfSeconds(0),
                         minutes: Minutes(0),
                     },
                 },
-                status: KnownStatus {
+                status: Known {
                     seen: false,
                     value: VehicleStatus {
                         target: 0,

@@ -27,7 +27,7 @@ decode_encode s =
     let seen = bit_back (car.battery.seen ∷ car.time.seen ∷ car.status.seen ∷ []) in
     rw (
       u16_back s.threshold,
-      u16_back car.battery.maximum,
+      u16_back car.battery.value,
       u16_back car.status.value.target,
       u32_back s.stage.age,
       u32_back (low_word s.energy),

@@ -4,7 +4,8 @@ use mathlib.Core.List.{List, [], ◌∷◌, ◌++◌}
 use mathlib.Core.Path.{◌≡◌, refl}
 use Prim.Native.Nat.{ℕ}
 use lib.ListN.{length, length-append, replicate}
-use Rattle.readings.specs.declared.Judged.{Judged}
+use Rattle.std.specs.Prelude.{Option}
+use Rattle.readings.specs.declared.Measured.{Measured}
 use Rattle.little_endian.specs.Numbers.{byte_at, u16_at}
 use Rattle.little_endian.proofs.Bytes.{u16_back}
 use Rattle.frames.specs.Heard.{newest_status}
@@ -23,7 +24,7 @@ sent_length p frame e = go (between 1 9 p)
     go true = e
     go false = refl
 
-module _ (c : Ratings) (level : ℕ) (lock : Bool) (reading : Judged) (s : Lead) where
+module _ (c : Ratings) (level : ℕ) (lock : Bool) (reading : Option Measured) (s : Lead) where
   offer_length : length (offer_bytes (offer_of c level s)) ≡ 8
   unfolding offer_bytes
   offer_length = refl
@@ -81,6 +82,6 @@ module _ (b : List ℕ) (resistance : ℕ) where
   unfolding input_of
   input_contacts = refl
 
-  pub input_status : (input_of b resistance).status ≡ newest_status (byte_at b 2) (frame_records b)
+  pub input_status : (input_of b resistance).frames.status ≡ newest_status (byte_at b 2) (frame_records b)
   unfolding input_of
   input_status = refl

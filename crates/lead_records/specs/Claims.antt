@@ -1,11 +1,9 @@
 -- Request 2026-04: what H'109 carries of a good reading. Definitions only.
-use Rattle.std.specs.Prelude.{Bool, true, List, ◌≡◌, ℕ, ◌+◌, min, T, Float}
+use Rattle.std.specs.Prelude.{Bool, true, List, ◌≡◌, ℕ, ◌+◌, min, T, Float, Some}
 use Rattle.little_endian.specs.Numbers.{byte_at, u16_at}
 use Rattle.readings.specs.Readings.{judged_of, allowed_resistance}
 use Rattle.readings.specs.Claims.{IsLeast, connector_of}
-use Rattle.readings.specs.declared.Reading.TheVariants.{Value}
 use Rattle.readings.specs.declared.Tenths.{Tenths}
-use Rattle.readings.specs.declared.Judged.TheVariants.{Good}
 use Rattle.common.specs.Tests.{between}
 use Rattle.lead.specs.declared.state.Lead.{Lead}
 use Rattle.lead.specs.declared.state.Ratings.{Ratings}
@@ -23,7 +21,7 @@ WholeCarried =
     (c : Ratings) (level : ℕ) (lock : Bool) (s : Lead) (volts amperes : Float) (v a : Tenths) (n k : ℕ)
     → T (between 1 9 s.stage.phase)
     → allowed_resistance c.resistance ≡ true
-    → judged_of (Value volts) (Value amperes) c.resistance ≡ Good v a
+    → judged_of (Some volts) (Some amperes) c.resistance ≡ Some (record { volts = v; amperes = a })
     → IsLeast 1 (connector_of volts amperes c.resistance) n
     → IsLeast 1 amperes k
-    → Carries (output_of c level lock (Good v a) s) n k
+    → Carries (output_of c level lock (Some (record { volts = v; amperes = a })) s) n k

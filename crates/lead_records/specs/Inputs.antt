@@ -4,7 +4,7 @@ use Rattle.little_endian.specs.Numbers.{byte_at, u32_at}
 use Rattle.little_endian.specs.Flags.{bit_at}
 use Rattle.readings.specs.Readings.{reading_of, judged_of}
 use Rattle.frames.specs.Records.{record_size}
-use Rattle.frames.specs.Heard.{newest_battery, newest_time, newest_status}
+use Rattle.frames.specs.Heard.{newest_frames}
 use Rattle.lead.specs.declared.state.Contacts.{Contacts}
 use Rattle.lead.specs.declared.state.Input.{Input}
 
@@ -36,9 +36,7 @@ input_of b resistance =
       contacts = contacts_of (byte_at b 0);
       reading = judged_of (reading_of (bit_at 0 (byte_at b 1)) (u32_at b 4)) (reading_of (bit_at 1 (byte_at b 1)) (u32_at b 8)) resistance;
       insulation = reading_of (bit_at 2 (byte_at b 1)) (u32_at b 12);
-      battery = newest_battery (byte_at b 2) (frame_records b);
-      time = newest_time (byte_at b 2) (frame_records b);
-      status = newest_status (byte_at b 2) (frame_records b);
+      frames = newest_frames (byte_at b 2) (frame_records b);
     }
 
 -- a lead's part of refusal 9: "Every spare bit and byte 3 zero, counts at most 8?"

@@ -1,10 +1,9 @@
 -- Document 01, 'The post's two calls' and 'Frames': the 24 bytes that a lead shows, "All show the state after the tick". Definitions only.
-use Rattle.std.specs.Prelude.{Bool, not, cond, ◌||◌, List, [], ◌∷◌, ◌++◌, ℕ, ◌*◌, eqb}
+use Rattle.std.specs.Prelude.{Bool, not, cond, ◌||◌, List, [], ◌∷◌, ◌++◌, ℕ, ◌*◌, eqb, Option, Some, None}
 use Rattle.little_endian.specs.Numbers.{low_byte, high_byte}
 use Rattle.little_endian.specs.Flags.{byte_of}
 use Rattle.readings.specs.Readings.{whole_units}
-use Rattle.readings.specs.declared.Judged.{Judged}
-use Rattle.readings.specs.declared.Judged.TheVariants.{Good, Bad}
+use Rattle.readings.specs.declared.Measured.{Measured}
 use Rattle.frames.specs.Times.{time_of, remaining_time}
 use Rattle.frames.specs.Sent.{offer_bytes, report_bytes}
 use Rattle.frames.specs.declared.times.ChargingTime.{ChargingTime}
@@ -61,12 +60,12 @@ remaining_of s =
     (time_of 0 0)
 
 -- "Without a good reading 1–3 are 0." 2026-04: "H'109 still carries whole numbers, rounded up from tenths."
-abbrev pub shown_reading : Judged → ShownReading
-shown_reading (Good volts amperes) = record { volts = whole_units volts; amperes = whole_units amperes }
-shown_reading Bad = record { volts = 0; amperes = 0 }
+abbrev pub shown_reading : Option Measured → ShownReading
+shown_reading (Some m) = record { volts = whole_units m.volts; amperes = whole_units m.amperes }
+shown_reading None = record { volts = 0; amperes = 0 }
 
 -- what H'109 reports
-unfoldable pub report_of : Bool → Judged → Lead → Report
+unfoldable pub report_of : Bool → Option Measured → Lead → Report
 report_of lock reading s =
     record {
       volts = (shown_reading reading).volts;
@@ -85,7 +84,7 @@ shown_bytes s =
     s.stage.phase ∷ s.stage.reason ∷ s.command ∷ switches s.stage.phase ∷ low_byte (test_volts s) ∷ high_byte (test_volts s) ∷ 0 ∷ 0 ∷ []
 
 -- "H'108; H'109". Of the tick itself they show what its level carries, its lock contact and its reading.
-unfoldable pub output_of : Ratings → ℕ → Bool → Judged → Lead → List ℕ
+unfoldable pub output_of : Ratings → ℕ → Bool → Option Measured → Lead → List ℕ
 output_of c level lock reading s =
     shown_bytes s
     ++ while_sending s.stage.phase (offer_bytes (offer_of c level s))

@@ -28,7 +28,7 @@ decode b =
       threshold = u16_at b 8;
       car =
           record {
-            battery = record { seen = bit_at 0 (byte_at b 7); maximum = u16_at b 10 };
+            battery = record { seen = bit_at 0 (byte_at b 7); value = u16_at b 10 };
             time = record { seen = bit_at 1 (byte_at b 7); value = time_of (byte_at b 14) (byte_at b 15) };
             status =
                 record {
@@ -53,7 +53,7 @@ encode s =
     ++ (s.car.status.value.request ∷ s.car.status.value.faults ∷ s.car.status.value.flags ∷ s.car.silence ∷ [])
     ++ (seen_byte s.car ∷ [])
     ++ u16_bytes s.threshold
-    ++ u16_bytes s.car.battery.maximum
+    ++ u16_bytes s.car.battery.value
     ++ u16_bytes s.car.status.value.target
     ++ (s.car.time.value.tens.0 ∷ s.car.time.value.minutes.0 ∷ [])
     ++ u32_bytes s.stage.age

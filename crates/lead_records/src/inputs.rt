@@ -1,11 +1,11 @@
 // A lead's input as bytes.
-ghost use Rattle.std.specs.Prelude.{◌≡◌, true, length};
+ghost use Rattle.std.specs.Prelude.{◌≡◌, true};
 ghost use Rattle.readings.specs.Readings.{allowed_resistance};
-ghost use Rattle.lead_records.specs.Inputs.{input_size, contacts_of, input_of, good_input};
+ghost use Rattle.lead_records.specs.Inputs.{contacts_of, input_of, good_input};
 
 use frames::HeardFrames;
 use lead::{Contacts, Input};
-use readings::{Reading, judge};
+use readings::{judge, reading_from};
 
 // The input's size, the places in it, and the weights in its bytes of bits.
 #[derive(Clone, Copy)]
@@ -71,8 +71,8 @@ impl InputRecord {
     }
 
     // The resistance is the cable's, as its float's bits.
-    pub fn read(bytes: &[u8], resistance: u32) -> Input
-        requires { (length bytes.now ≡ input_size) × (allowed_resistance resistance ≡ true) }
+    pub fn read(bytes: &[u8; InputRecord::SIZE], resistance: u32) -> Input
+        requires { allowed_resistance resistance ≡ true }
         ensures { result ≡ input_of bytes.now resistance }
     {
         let present = bytes[InputRecord::PRESENT];
@@ -80,34 +80,25 @@ impl InputRecord {
         let has_volts = present / InputRecord::PRESENT_VOLTS % 2 == 1;
         let has_amperes = present / InputRecord::PRESENT_AMPERES % 2 == 1;
         let has_insulation = present / InputRecord::PRESENT_INSULATION % 2 == 1;
-        let volts = Reading::from_bytes(
-            &bytes[InputRecord::VOLTS..InputRecord::AMPERES],
-            has_volts,
-        );
-        let amperes = Reading::from_bytes(
+        let volts = reading_from(&bytes[InputRecord::VOLTS..InputRecord::AMPERES], has_volts);
+        let amperes = reading_from(
             &bytes[InputRecord::AMPERES..InputRecord::INSULATION],
             has_amperes,
         );
-        let heard = HeardFrames::newest(&bytes[InputRecord::FRAMES..InputRecord::SIZE], count);
-        let battery = heard.battery;
-        let time = heard.time;
-        let status = heard.status;
         Input {
             contacts: InputRecord::contacts(bytes[InputRecord::CONTACTS]),
             reading: judge(volts, amperes, resistance),
-            insulation: Reading::from_bytes(
+            insulation: reading_from(
                 &bytes[InputRecord::INSULATION..InputRecord::FRAMES],
                 has_insulation,
             ),
-            battery,
-            time,
-            status,
+            frames: HeardFrames::newest(&bytes[InputRecord::FRAMES..], count),
         }
     }
 
     // A lead's part of refusal 9.
-    pub fn is_good(bytes: &[u8]) -> bool
-        requires { length bytes.now ≡ input_size }
+    #[tactic(auto, unfolding(crate::specs::Inputs::good_input))]
+    pub fn is_good(bytes: &[u8; InputRecord::SIZE]) -> bool
         ensures { result ≡ good_input bytes.now }
     {
         (bytes[InputRecord::CONTACTS] <= InputRecord::CONTACTS_MOST)

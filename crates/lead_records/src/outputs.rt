@@ -3,10 +3,11 @@ ghost use Rattle.std.specs.Prelude.{◌≡◌, ◌++◌, length};
 ghost use Rattle.frames.specs.Sent.{offer_bytes, report_bytes};
 ghost use Rattle.lead_records.specs.Outputs.{output_size, frames_size, switches, test_volts, offer_of, flags_of, remaining_of, shown_reading, report_of, while_sending, output_of};
 
+use super::turns::Turn;
 use frames::{ChargerFlags, ChargingTime, Minutes, Offer, Report, TensOfSeconds, Ticks};
-use lead::{Lead, Phase, Ratings, Reason};
-use little_endian::{high_byte, low_byte};
-use readings::Judged;
+use lead::{Lead, Phase, Ratings, Reason, Stage};
+use little_endian::u16_bytes;
+use readings::Measured;
 
 // The output's size, the places in it, and the weights in its byte of switches.
 #[derive(Clone, Copy)]
@@ -22,16 +23,6 @@ struct ShownReading {
 impl OutputRecord {
     pub const SIZE: usize = 24;
 
-    const PHASE: usize = 0;
-
-    const REASON: usize = 1;
-
-    const COMMAND: usize = 2;
-
-    const SWITCHES: usize = 3;
-
-    const TEST_VOLTS: usize = 4;
-
     // The two frames.
     const OFFER: usize = 8;
 
@@ -46,6 +37,8 @@ impl OutputRecord {
 
     const FRAMES: u8 = 8;
 
+    // Kept: a table of the document under its phase numbers. No step is run by it.
+    #[tactic(auto, unfolding(crate::specs::Outputs::switches))]
     fn switches(phase: u8) -> u8
         ensures { result ≡ switches phase }
     {
@@ -61,6 +54,7 @@ impl OutputRecord {
         }
     }
 
+    #[tactic(auto, unfolding(crate::specs::Outputs::test_volts))]
     fn test_volts(lead: Lead) -> u16
         ensures { result ≡ test_volts lead }
     {
@@ -70,11 +64,13 @@ impl OutputRecord {
         0
     }
 
-    fn flags(lock: bool, phase: u8, reason: u8) -> ChargerFlags
-        ensures { result ≡ flags_of lock phase reason }
+    #[tactic(auto, unfolding(crate::specs::Outputs::flags_of))]
+    fn flags(lock: bool, stage: Stage) -> ChargerFlags
+        ensures { result ≡ flags_of lock stage.phase stage.reason }
     {
-        let charging = (Phase::CHARGING <= phase) & (phase <= Phase::RAMP_DOWN);
-        let stopped = !(phase == Phase::CHARGING);
+        let reason = stage.reason;
+        let charging = stage.is_between(Phase::CHARGING, Phase::RAMP_DOWN);
+        let stopped = stage.phase != Phase::CHARGING;
         // Most leads show no reason, and then none of its three flags.
         if reason == Reason::NONE {
             return ChargerFlags {
@@ -98,16 +94,16 @@ impl OutputRecord {
         }
     }
 
+    #[tactic(auto, unfolding(crate::specs::Outputs::remaining_of))]
     fn remaining(lead: Lead) -> ChargingTime
         ensures { result ≡ remaining_of lead }
     {
-        let phase = lead.stage.phase;
+        let stage = lead.stage;
         let time = lead.car.time.value;
-        if phase == Phase::CHARGING {
-            return time.remaining(Ticks(lead.stage.age));
+        if stage.phase == Phase::CHARGING {
+            return time.remaining(Ticks(stage.age));
         }
-        let announced = (Phase::LOCKING <= phase) & (phase <= Phase::CHARGING);
-        if announced {
+        if stage.is_between(Phase::LOCKING, Phase::CHARGING) {
             return time.remaining(Ticks(0));
         }
         ChargingTime {
@@ -116,15 +112,15 @@ impl OutputRecord {
         }
     }
 
-    fn shown_reading(reading: Judged) -> ShownReading
+    fn shown_reading(reading: Option<Measured>) -> ShownReading
         ensures { result ≡ shown_reading reading }
     {
         match reading {
-            Judged::Good { volts, amperes } => ShownReading {
+            Some(Measured { volts, amperes }) => ShownReading {
                 volts: volts.whole_units(),
                 amperes: amperes.whole_units(),
             },
-            Judged::Bad => ShownReading {
+            None => ShownReading {
                 volts: 0,
                 amperes: 0,
             },
@@ -144,37 +140,34 @@ impl OutputRecord {
     }
 
     // H'109.
-    fn report(lock: bool, reading: Judged, lead: Lead) -> [u8; 8]
-        ensures { result ≡ report_bytes (report_of lock reading lead) }
+    #[tactic(auto, unfolding(crate::specs::Outputs::report_of))]
+    fn report(turn: Turn) -> [u8; 8]
+        ensures { result ≡ report_bytes (report_of turn.lock turn.reading turn.lead) }
     {
-        let shown = OutputRecord::shown_reading(reading);
+        let lead = turn.lead;
+        let shown = OutputRecord::shown_reading(turn.reading);
         let report = Report {
             volts: shown.volts,
             amperes: shown.amperes,
-            flags: OutputRecord::flags(lock, lead.stage.phase, lead.stage.reason),
+            flags: OutputRecord::flags(turn.lock, lead.stage),
             remaining: OutputRecord::remaining(lead),
         };
         report.bytes()
     }
 
     // H'108 and H'109, zeros where none is sent.
-    fn write_frames(
-        ratings: Ratings,
-        level: u32,
-        lock: bool,
-        reading: Judged,
-        lead: Lead,
-        frames: &mut [u8],
-    )
+    fn write_frames(ratings: Ratings, level: u32, turn: Turn, frames: &mut [u8])
         requires { length frames.old ≡ frames_size }
-        ensures { frames.new ≡ while_sending lead.stage.phase (offer_bytes (offer_of ratings level lead))
-            ++ while_sending lead.stage.phase (report_bytes (report_of lock reading lead)) }
+        ensures { frames.new ≡ while_sending turn.lead.stage.phase (offer_bytes (offer_of ratings level turn.lead))
+            ++ while_sending turn.lead.stage.phase (report_bytes (report_of turn.lock turn.reading turn.lead)) }
     {
-        let phase = lead.stage.phase;
-        let sending = (Phase::HANDSHAKE <= phase) & (phase <= Phase::FINAL_DISCHARGE);
+        let sending = turn
+            .lead
+            .stage
+            .is_between(Phase::HANDSHAKE, Phase::FINAL_DISCHARGE);
         if sending {
-            let offer = OutputRecord::offer(ratings, level, lead);
-            let report = OutputRecord::report(lock, reading, lead);
+            let offer = OutputRecord::offer(ratings, level, turn.lead);
+            let report = OutputRecord::report(turn);
             frames[..OutputRecord::REPORT - OutputRecord::OFFER].copy_from_slice(&offer);
             frames[OutputRecord::REPORT - OutputRecord::OFFER..].copy_from_slice(&report);
             return;
@@ -182,35 +175,26 @@ impl OutputRecord {
         frames.copy_from_slice(&[0u8; OutputRecord::SIZE - OutputRecord::OFFER]);
     }
 
-    // Of the lead after the tick, with the tick's level, lock contact and reading.
-    pub fn write(
-        ratings: Ratings,
-        level: u32,
-        lock: bool,
-        reading: Judged,
-        lead: Lead,
-        output: &mut [u8],
-    )
+    // Of a turn whose lead has its command, at the tick's level.
+    pub fn write(ratings: Ratings, level: u32, turn: Turn, output: &mut [u8])
         requires { length output.old ≡ output_size }
-        ensures { output.new ≡ output_of ratings level lock reading lead }
+        ensures { output.new ≡ output_of ratings level turn.lock turn.reading turn.lead }
     {
+        let lead = turn.lead;
         let phase = lead.stage.phase;
-        let test = OutputRecord::test_volts(lead);
-        let mut shown = [0u8; OutputRecord::OFFER];
-        shown[OutputRecord::PHASE] = phase;
-        shown[OutputRecord::REASON] = lead.stage.reason;
-        shown[OutputRecord::COMMAND] = lead.command;
-        shown[OutputRecord::SWITCHES] = OutputRecord::switches(phase);
-        shown[OutputRecord::TEST_VOLTS] = low_byte(test);
-        shown[OutputRecord::TEST_VOLTS + 1] = high_byte(test);
+        let [test_low, test_high] = u16_bytes(OutputRecord::test_volts(lead));
+        // The last two are 0.
+        let shown = [
+            phase,
+            lead.stage.reason,
+            lead.command,
+            OutputRecord::switches(phase),
+            test_low,
+            test_high,
+            0,
+            0,
+        ];
         output[..OutputRecord::OFFER].copy_from_slice(&shown);
-        OutputRecord::write_frames(
-            ratings,
-            level,
-            lock,
-            reading,
-            lead,
-            &mut output[OutputRecord::OFFER..],
-        );
+        OutputRecord::write_frames(ratings, level, turn, &mut output[OutputRecord::OFFER..]);
     }
 }

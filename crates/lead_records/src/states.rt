@@ -1,11 +1,11 @@
 // A lead's state as bytes.
-ghost use Rattle.std.specs.Prelude.{◌≡◌, length, drop};
+ghost use Rattle.std.specs.Prelude.{◌≡◌, drop};
 ghost use Rattle.lead.specs.Leads.{fresh, with_car};
-ghost use Rattle.lead_records.specs.States.{state_size, spare_from, decode, seen_byte, encode, all_zero, good_state};
+ghost use Rattle.lead_records.specs.States.{spare_from, decode, seen_byte, encode, all_zero, good_state};
 
 use frames::{ChargingTime, Minutes, TensOfSeconds, VehicleStatus};
-use lead::{Car, KnownBattery, KnownStatus, KnownTime, Lead, Ratings, Stage};
-use little_endian::{flag, high_byte, low_byte, u16_at, u32_at, u32_bytes, u64_at, u64_bytes};
+use lead::{Car, Known, Lead, Ratings, Stage};
+use little_endian::{flag, u16_at, u16_bytes, u32_at, u32_bytes, u64_at, u64_bytes};
 
 // The state's size, the places in it, and the weights in its byte of frames seen.
 #[derive(Clone, Copy)]
@@ -56,8 +56,8 @@ impl StateRecord {
 
     const SEEN_MOST: u8 = 7;
 
-    pub fn read(bytes: &[u8]) -> Lead
-        requires { length bytes.now ≡ state_size }
+    #[tactic(auto, unfolding(crate::specs::States::decode))]
+    pub fn read(bytes: &[u8; StateRecord::SIZE]) -> Lead
         ensures { result ≡ decode bytes.now }
     {
         Lead {
@@ -73,24 +73,24 @@ impl StateRecord {
         }
     }
 
-    fn read_car(bytes: &[u8]) -> Car
-        requires { length bytes.now ≡ state_size }
+    #[tactic(auto, unfolding(crate::specs::States::decode))]
+    fn read_car(bytes: &[u8; StateRecord::SIZE]) -> Car
         ensures { result ≡ (decode bytes.now).car }
     {
         let seen = bytes[StateRecord::SEEN];
         Car {
-            battery: KnownBattery {
+            battery: Known {
                 seen: seen / StateRecord::SEEN_BATTERY % 2 == 1,
-                maximum: u16_at(bytes, StateRecord::MAXIMUM),
+                value: u16_at(bytes, StateRecord::MAXIMUM),
             },
-            time: KnownTime {
+            time: Known {
                 seen: seen / StateRecord::SEEN_TIME % 2 == 1,
                 value: ChargingTime {
                     tens: TensOfSeconds(bytes[StateRecord::TENS]),
                     minutes: Minutes(bytes[StateRecord::MINUTES]),
                 },
             },
-            status: KnownStatus {
+            status: Known {
                 seen: seen / StateRecord::SEEN_STATUS % 2 == 1,
                 value: VehicleStatus {
                     target: u16_at(bytes, StateRecord::TARGET),
@@ -107,30 +107,20 @@ impl StateRecord {
         ensures { result ≡ encode lead }
     {
         let stage = lead.stage;
-        let age = u32_bytes(stage.age);
-        let energy = u64_bytes(lead.energy);
         let mut bytes = StateRecord::car_bytes(lead.car);
         bytes[StateRecord::PHASE] = stage.phase;
         bytes[StateRecord::REASON] = stage.reason;
         bytes[StateRecord::COMMAND] = lead.command;
-        bytes[StateRecord::THRESHOLD] = low_byte(lead.threshold);
-        bytes[StateRecord::THRESHOLD + 1] = high_byte(lead.threshold);
-        bytes[StateRecord::AGE] = age[0];
-        bytes[StateRecord::AGE + 1] = age[1];
-        bytes[StateRecord::AGE + 2] = age[2];
-        bytes[StateRecord::AGE + 3] = age[3];
-        bytes[StateRecord::ENERGY] = energy[0];
-        bytes[StateRecord::ENERGY + 1] = energy[1];
-        bytes[StateRecord::ENERGY + 2] = energy[2];
-        bytes[StateRecord::ENERGY + 3] = energy[3];
-        bytes[StateRecord::ENERGY + 4] = energy[4];
-        bytes[StateRecord::ENERGY + 5] = energy[5];
-        bytes[StateRecord::ENERGY + 6] = energy[6];
-        bytes[StateRecord::ENERGY + 7] = energy[7];
+        bytes[StateRecord::THRESHOLD..StateRecord::MAXIMUM].copy_from_slice(&u16_bytes(
+            lead.threshold,
+        ));
+        bytes[StateRecord::AGE..StateRecord::ENERGY].copy_from_slice(&u32_bytes(stage.age));
+        bytes[StateRecord::ENERGY..StateRecord::SPARE].copy_from_slice(&u64_bytes(lead.energy));
         bytes
     }
 
     // The bytes of a lead that is fresh but for what it knows of the car.
+    #[tactic(auto, unfolding(crate::specs::States::encode))]
     fn car_bytes(car: Car) -> [u8; StateRecord::SIZE]
         ensures { result ≡ encode (with_car car fresh) }
     {
@@ -142,10 +132,10 @@ impl StateRecord {
         bytes[StateRecord::FLAGS] = status.flags;
         bytes[StateRecord::SILENCE] = car.silence;
         bytes[StateRecord::SEEN] = StateRecord::seen(car);
-        bytes[StateRecord::MAXIMUM] = low_byte(car.battery.maximum);
-        bytes[StateRecord::MAXIMUM + 1] = high_byte(car.battery.maximum);
-        bytes[StateRecord::TARGET] = low_byte(status.target);
-        bytes[StateRecord::TARGET + 1] = high_byte(status.target);
+        bytes[StateRecord::MAXIMUM..StateRecord::TARGET].copy_from_slice(&u16_bytes(
+            car.battery.value,
+        ));
+        bytes[StateRecord::TARGET..StateRecord::TENS].copy_from_slice(&u16_bytes(status.target));
         bytes[StateRecord::TENS] = time.tens.0;
         bytes[StateRecord::MINUTES] = time.minutes.0;
         bytes
@@ -160,8 +150,8 @@ impl StateRecord {
     }
 
     // A lead's part of refusal 6.
-    pub fn is_good(bytes: &[u8], ratings: Ratings) -> bool
-        requires { length bytes.now ≡ state_size }
+    #[tactic(auto, unfolding(crate::specs::States::good_state))]
+    pub fn is_good(bytes: &[u8; StateRecord::SIZE], ratings: Ratings) -> bool
         ensures { result ≡ good_state ratings bytes.now }
     {
         let lead = StateRecord::read(bytes);
@@ -172,8 +162,7 @@ impl StateRecord {
 }
 
 // The four spare bytes, as one number.
-fn is_spare_zero(bytes: &[u8]) -> bool
-    requires { length bytes.now ≡ state_size }
+fn is_spare_zero(bytes: &[u8; StateRecord::SIZE]) -> bool
     ensures { result ≡ all_zero (drop spare_from bytes.now) }
 {
     u32_at(bytes, StateRecord::SPARE) == 0

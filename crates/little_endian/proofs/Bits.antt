@@ -3,12 +3,12 @@ use mathlib.Core.Bool.{Bool, true, false}
 use mathlib.Core.List.{List, [], ◌∷◌}
 use mathlib.Core.Path.{◌≡◌, sym, ap, ◌∙◌}
 use Prim.Native.Nat.{ℕ, zero, suc, ◌+◌, ◌*◌, ◌/◌, ◌%◌, ◌^◌, ◌<◌}
-use native.Mathlib.Nat.{zero-div}
+use native.Mathlib.Nat.{zero-div, pow-succ'}
 use native.Mathlib.Omega.{arith}
 use borrow.Author.Tests.{eq-eqb, ne_eqb}
 use lib.Dec.{eqb}
 use lib.ListN.{length, get_or}
-use lib.Pow.{pow-add, shr-shr}
+use lib.Pow.{shr-shr}
 use Rattle.little_endian.specs.Flags.{bit_at, bit_value, byte_of}
 
 half : (bit : Bool) (m : ℕ) → (bit_value bit + 2 * m) / 2 ≡ m
@@ -30,9 +30,7 @@ bit_back (bit ∷ bits) (suc k) =
 pub byte_below : (bits : List Bool) → byte_of bits < 2 ^ length bits
 byte_below [] = omega arith
 byte_below (bit ∷ bits) =
-    let more : suc (length bits) ≡ 1 + length bits = omega arith in
-    let twice : 2 ^ suc (length bits) ≡ 2 * 2 ^ length bits = ap (λ (n : ℕ). 2 ^ n) more ∙ pow-add 2 1 (length bits) in
-    rw twice (go bit (byte_below bits))
+    rw (pow-succ' 2 (length bits)) (go bit (byte_below bits))
   where
     go : (b : Bool) → byte_of bits < 2 ^ length bits → bit_value b + 2 * byte_of bits < 2 * 2 ^ length bits
     go true r = omega arith

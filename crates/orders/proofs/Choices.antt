@@ -6,9 +6,11 @@ use mathlib.Core.Path.{◌≡◌, refl, ap, ◌∙◌}
 use Prim.Native.Nat.{ℕ, zero, suc, ◌+◌, ◌≤◌, ◌<◌}
 use native.Mathlib.Omega.{arith}
 use lib.Dec.{leb}
-use lib.ListN.{length}
+use lib.ListN.{length, take, drop}
+use Rattle.std.specs.List.{fold}
+use Rattle.std.specs.Simd.{first_chunks}
 use borrow.Author.Tests.{le-leb, lt-leb, leb-true}
-use Rattle.orders.specs.Places.{place_count, unused, orders_in, orders_bytes}
+use Rattle.orders.specs.Places.{place_count, place_size, unused, order_in, orders_in, orders_bytes}
 use Rattle.orders.specs.Allowances.{covers, chosen, choose, watts_of, allowance_of}
 use Rattle.orders.specs.Claims.{place_at, Counts}
 use Rattle.orders.specs.declared.places.Order.{Order}
@@ -42,6 +44,13 @@ module _ (tick : ℕ) where
   unfolding allowance_of
   by_orders os watts h =
       rw (places_length place_count os) (ap (λ (c : Choice). c.watts) (choose_back (record { least = 0; watts = watts }) place_count os h))
+
+  -- as `fold` goes through them
+  pub choose_places :
+      (c : Choice) (n : ℕ) (s : List ℕ)
+      → fold (λ (x : Choice) (place : List ℕ). chosen tick x (order_in place)) c (first_chunks place_size n s) ≡ choose tick c (orders_in n s)
+  choose_places c zero s = refl
+  choose_places c (suc n) s = choose_places (chosen tick c (order_in (take place_size s))) n (drop place_size s)
 
   -- an order that does not cover the tick, or has no higher number, leaves the choice
   chosen_stays : (c : Choice) (o : Order) → (covers tick o ≡ true → o.number < c.least) → chosen tick c o ≡ c

@@ -2,7 +2,7 @@
 use mathlib.Core.Bool.{Bool, true, false, cond, false≢true}
 use mathlib.Core.List.{List, [], map}
 use mathlib.Core.Logic.{inl, inr}
-use mathlib.Core.Option.{some}
+use Rattle.std.specs.Prelude.{Some}
 use mathlib.Core.Path.{◌≡◌, refl, sym, ap, subst, ◌∙◌}
 use Prim.Native.Nat.{ℕ, ◌≤◌, ◌<◌}
 use native.Mathlib.Omega.{arith}
@@ -18,7 +18,7 @@ use Rattle.orders.specs.declared.places.Order.{Order}
 use Rattle.orders.specs.declared.allowances.Choice.{Choice}
 use Rattle.orders.proofs.PlaceBytes.{places_length, places_back}
 use Rattle.orders.proofs.Spelled.{Every, Whole, Filled, lines_whole, lines_closed, lines_opened, text_spelled}
-use Rattle.orders.proofs.Kept.{Sound, answer_sound, places_unused}
+use Rattle.orders.proofs.Accepted.{Sound, answer_sound, places_unused}
 use Rattle.orders.proofs.Choices.{by_orders, stays, highest_chosen}
 use Rattle.orders.proofs.Reordered.{Agrees, Reordered, permuted, reordered, every_reordered}
 
@@ -110,13 +110,13 @@ pub round_trip : RoundTrip
 round_trip text orders p =
     let a = accepting text orders p in
     let many : length a.os ≡ length (lines_of text) =
-    sym (length-map a.os some) ∙ ap length a.sound_there.1 ∙ length-map (lines_of text) order_of in
+    sym (length-map a.os Some) ∙ ap length a.sound_there.1 ∙ length-map (lines_of text) order_of in
     let few : length a.os ≤ place_count = a.sound_there.0 in
     rw a.taken
     (record {
       whole = places_length place_count a.os;
       few = rw (← many) few;
-      used = rw (← many) (ap (map some) (places_back place_count a.os few) ∙ a.sound_there.1);
+      used = rw (← many) (ap (map Some) (places_back place_count a.os few) ∙ a.sound_there.1);
       rest = rw (← many) (places_unused place_count a.os few);
     })
 

@@ -1,234 +1,126 @@
--- Where a text is cut into lines, and its first line into fields. Assumes nothing.
-use mathlib.Core.Bool.{Bool, true, false, cond, and-false}
-use mathlib.Core.List.{List, [], ◌∷◌}
-use mathlib.Core.Option.{Option, none, some}
+-- Where a text is cut into lines, as `split_inclusive` hands them out. Assumes nothing.
+use mathlib.Core.Bool.{Bool, true, false, and-true}
+use mathlib.Core.List.{List, [], ◌∷◌, ◌++◌, append_assoc, append-nil}
+use mathlib.Core.Logic.{⊎_elim}
 use mathlib.Core.Path.{◌≡◌, refl, sym, ap, subst, ◌∙◌}
-use Prim.Native.Nat.{ℕ, suc, ◌+◌, ◌≤◌, ◌<◌, min}
+use Prim.Native.Nat.{ℕ, suc, ◌+◌, ◌-◌, ◌≤◌, ◌<◌, min}
 use native.Mathlib.Omega.{arith}
-use lib.Dec.{ltb, eqb}
-use lib.ListN.{length, get_or, take, drop, drop_of_length-le, length-drop}
-use lib.Seq.{drop-cons, drop-drop, get_or-drop}
-use borrow.Author.Tests.{eq-eqb, ne_eqb, lt-ltb, le-ltb, ltb-true, ltb-false, eqb-true}
-use Rattle.common.specs.Texts.{push, fields_of}
-use Rattle.common.proofs.Texts.{some_field}
-use Rattle.orders.specs.Numbers.{number_of}
-use Rattle.orders.specs.Lines.{lines_of, with_number, number_then, number_last, after_number, order_of}
-use Rattle.orders.specs.Scans.{is_mark, field_length, first_field, line_length, first_line, found_at, is_tabbed, tabbed_at, last_at, read_at, fields_at, order_at}
-use Rattle.orders.specs.declared.places.Order.{Order}
-use Rattle.orders.specs.declared.numbers.Found.{Found}
-use Rattle.orders.specs.declared.numbers.Found.TheVariants.{At, Not}
-use Rattle.orders.specs.declared.lines.Read.TheVariants as read
+use denote.Param.Members.{Mut}
+use denote.Ref.{Bor}
+use lib.Dec.{eqb}
+use lib.ListN.{length, get_or, take, drop, length-append}
+use borrow.Author.Tests.{eqb-true}
+use Rattle.std.specs.Prelude.{Option, Some, None, MatchOption, nat_eq, unwrap_or}
+use Rattle.std.specs.declared.slice.SplitInclusive.{SplitInclusive}
+use Rattle.std.specs.Cmp.Lexicographic.{pointwise}
+use Rattle.std.specs.Fn.{ComputesKey, CalledAt}
+use Rattle.std.specs.List.{All, IsFirstMatchOrLen}
+use Rattle.std.specs.Slice.Iter.{split_inclusive_rest, split_inclusive_callee}
+use Rattle.std.proofs.lemmas.Bool.{cases_lt}
+use Rattle.std.proofs.lemmas.Fn.{always_returns_same}
+use Rattle.std.proofs.lemmas.Iterator.{YieldsList}
+use Rattle.std.proofs.lemmas.Iterator.Splits.{YieldsList-from_shown_while}
+use Rattle.std.proofs.lemmas.List.{get_or-take, length-take-le, take_at, take_more, drop_more, drop_all, nil_from_length, length_push, get_or_push}
+use Rattle.orders.specs.Lines.{lines_of}
+use Rattle.orders.specs.Scans.{unended}
+use Rattle.orders.proofs.Spelled.{Whole, ended_line, last_line}
 
--- the first line, and the lines behind it
-line_first :
-    (c : ℕ) (s : List ℕ)
-    → lines_of (c ∷ s) ≡ take (line_length (c ∷ s)) (c ∷ s) ∷ lines_of (drop (suc (line_length (c ∷ s))) (c ∷ s))
-line_first c [] = go (eqb c 10)
+abbrev is_feed : ℕ → Bool
+is_feed c = eqb c 10
+
+-- no line feed in a line
+abbrev Unfed : List ℕ → Type 0
+Unfed l = All (λ c. is_feed c ≡ false) l
+
+unfed_whole : (l : List ℕ) → Unfed l → Whole l
+unfed_whole [] h = tt
+unfed_whole (c ∷ l) h = (h 0 c (omega arith), unfed_whole l (λ k d b. h (suc k) d (omega arith)))
+
+-- a line with its line feed, and without
+unended_fed : (l : List ℕ) → unended (l ++ (10 ∷ [])) ≡ l
+unfolding unended
+unended_fed l =
+    let e : length (l ++ (10 ∷ [])) - 1 ≡ length l = omega (arith, length_push l 10) in
+    rw (e, get_or_push l 10 0 (length l) refl, take_at l (10 ∷ []) (length l) refl)
+
+unended_unfed : (c : ℕ) (l : List ℕ) → Unfed (c ∷ l) → unended (c ∷ l) ≡ c ∷ l
+unfolding unended
+unended_unfed c l h = rw (h (length (c ∷ l) - 1) 0 (omega arith))
+
+last_unfed : (l : List ℕ) → 0 < length l → Unfed l → lines_of l ≡ unended l ∷ []
+last_unfed [] n h = absurd (omega arith)
+last_unfed (c ∷ l) n h = last_line (c ∷ l) (unfed_whole (c ∷ l) h) tt ∙ ap (λ x. x ∷ []) (sym (unended_unfed c l h))
+
+-- the line that ends at the first line feed or with the text, and the lines behind it
+lines_first :
+    (s x rest : List ℕ) (i : ℕ)
+    → 0 < length s
+    → s ≡ x ++ rest
+    → length x ≡ min (i + 1) (length s)
+    → IsFirstMatchOrLen is_feed s i
+    → lines_of s ≡ unended x ∷ lines_of rest
+lines_first s x rest i some e n h = ⊎_elim inside past (cases_lt i (length s))
   where
-    go : (b : Bool) → cond b ([] ∷ []) ((c ∷ []) ∷ []) ≡ take (cond b 0 1) (c ∷ []) ∷ lines_of (drop (suc (cond b 0 1)) (c ∷ []))
-    go true = refl
-    go false = refl
-line_first c (d ∷ s) = go (eqb c 10) (line_first d s)
-  where
-    n : ℕ
-    n = line_length (d ∷ s)
+    inside : i < length s → lines_of s ≡ unended x ∷ lines_of rest
+    inside l =
+        let front : List ℕ = take i s in
+        let long : length front ≡ i = length-take-le i s (omega arith) in
+        let fed : x ≡ front ++ (10 ∷ []) =
+        sym (take_at x rest (i + 1) (omega arith)) ∙ ap (take (i + 1)) (sym e) ∙ take_more s i 0 l ∙ ap (λ c. front ++ (c ∷ [])) (eqb-true _ 10 (h.1 l 0)) in
+        let unfed : Unfed front = λ k d b. ap is_feed (get_or-take i s k d (omega arith)) ∙ h.0 k d (omega arith) (omega arith) in
+        ap lines_of (e ∙ ap (λ v. v ++ rest) fed ∙ append_assoc front (10 ∷ []) rest)
+        ∙ ended_line front rest (unfed_whole front unfed)
+        ∙ ap (λ v. v ∷ lines_of rest) (sym (ap unended fed ∙ unended_fed front))
 
-    go :
-        (b : Bool)
-        → lines_of (d ∷ s) ≡ take n (d ∷ s) ∷ lines_of (drop (suc n) (d ∷ s))
-        → cond b ([] ∷ lines_of (d ∷ s)) (push c (lines_of (d ∷ s)))
-        ≡ take (cond b 0 (suc n)) (c ∷ d ∷ s) ∷ lines_of (drop (suc (cond b 0 (suc n))) (c ∷ d ∷ s))
-    go true k = refl
-    go false k = ap (push c) k
+    past : length s ≤ i → lines_of s ≡ unended x ∷ lines_of rest
+    past l =
+        let nothing : rest ≡ [] = nil_from_length rest (omega (arith, ap length e, length-append x rest)) in
+        let all : s ≡ x = e ∙ ap (λ v. x ++ v) nothing ∙ append-nil x in
+        let unfed : Unfed x = λ k d b. subst (λ v. is_feed (get_or v k d) ≡ false) all (h.0 k d (omega arith) (omega arith)) in
+        ap lines_of all ∙ last_unfed x (omega arith) unfed ∙ ap (λ r. unended x ∷ lines_of r) (sym nothing)
 
-pub lines_more :
-    (text : List ℕ) (at : ℕ) → at < length text
-    → lines_of (drop at text) ≡ first_line (drop at text) ∷ lines_of (drop (at + line_length (drop at text) + 1) text)
-unfolding first_line
-lines_more text at h =
-    let e = drop-cons text at 0 h in
-    let f : suc (line_length (drop at text)) ≡ line_length (drop at text) + 1 = omega arith in
-    let g : at + (line_length (drop at text) + 1) ≡ at + line_length (drop at text) + 1 = omega arith in
-    subst
-    (λ (l : List ℕ). lines_of l ≡ take (line_length l) l ∷ lines_of (drop (suc (line_length l)) l))
-    (sym e)
-    (line_first (get_or text at 0) (drop (suc at) text))
-    ∙ ap
-    (λ (r : List ℕ). take (line_length (drop at text)) (drop at text) ∷ lines_of r)
-    (ap (λ (k : ℕ). drop k (drop at text)) f ∙ drop-drop (line_length (drop at text) + 1) at text ∙ ap (λ (k : ℕ). drop k text) g)
+module _ {F : Type 0} (g : Mut F (Bor ℕ × Unit {0}) Bool) where
+  -- what a turn of `split_inclusive` gives
+  abbrev pub inclusive_steps : SplitInclusive ℕ F → Option (Bor (List ℕ)) → SplitInclusive ℕ F → Type 0
+  inclusive_steps s r t =
+      MatchOption r
+      ((length (split_inclusive_rest s) ≡ 0) × (t ≡ s))
+      (λ x.
+      (split_inclusive_rest s ≡ x.now ++ split_inclusive_rest t)
+      × ((i : ℕ)
+      × (length x.now ≡ min (i + 1) (length (split_inclusive_rest s)))
+      × ((p : ℕ → Bool) → ComputesKey g p (split_inclusive_callee s) → ComputesKey g p (split_inclusive_callee t) × IsFirstMatchOrLen p (split_inclusive_rest s) i))
+      × (0 < length (split_inclusive_rest s)))
 
--- a part that begins behind the text is none
-pub drop_min : (k : ℕ) (s : List ℕ) → drop (min k (length s)) s ≡ drop k s
-drop_min k s = go (ltb k (length s)) refl
-  where
-    go : (b : Bool) → ltb k (length s) ≡ b → drop (min k (length s)) s ≡ drop k s
-    go true e = let h = ltb-true k (length s) e in let q : min k (length s) ≡ k = omega arith in rw q
-    go false e =
-        let h = ltb-false k (length s) e in
-        let q : length s ≤ min k (length s) = omega arith in
-        rw (drop_of_length-le s q, drop_of_length-le s h)
+  -- the lines of a text come, each perhaps with its line feed
+  pub lines_given :
+      {f : F} (text : List ℕ) (s : SplitInclusive ℕ F)
+      → split_inclusive_rest s ≡ text
+      → split_inclusive_callee s ≡ f
+      → (t : SplitInclusive ℕ F) (r : Option (Bor (List ℕ))) (u : SplitInclusive ℕ F)
+      → inclusive_steps t r u
+      → ((c : ℕ) (b : Bool) (q : F) → CalledAt g f c b q → (q ≡ f) × (b ≡ is_feed c))
+      → YieldsList inclusive_steps (λ x. unended x.now) s (lines_of text)
+  lines_given {f} text s er ef t r u turn by_call =
+      subst (λ v. YieldsList inclusive_steps (λ x. unended x.now) s (lines_of v)) er
+      (YieldsList-from_shown_while inclusive_steps (λ x. unended x.now) (λ t. lines_of (split_inclusive_rest t)) (λ t. ComputesKey g is_feed (split_inclusive_callee t))
+      (λ t u h k. ap (λ v. length (lines_of v)) (nil_from_length (split_inclusive_rest t) k.0))
+      (λ t x u h k. let cut = k.1.2 is_feed h in (cut.0, lines_first (split_inclusive_rest t) x.now (split_inclusive_rest u) k.1.0 k.2 k.0 k.1.1 cut.1))
+      s
+      (subst (ComputesKey g is_feed) (sym ef) (always_returns_same g (λ a r. r ≡ is_feed a.0.now) f (λ a r q k. let m = by_call a.0.now r q (record { shown = a.0; shows = refl; called = k }) in (m.1, m.0)))))
 
--- the first line's fields: the first, and those behind the tab that ends it, if a tab does
-abbrev Cut : List ℕ → Bool → Type 0
-Cut s true =
-    (fields_of (first_line s) ≡ first_field s ∷ fields_of (first_line (drop (field_length s + 1) s)))
-    × (line_length s ≡ field_length s + 1 + line_length (drop (field_length s + 1) s))
-Cut s false = (fields_of (first_line s) ≡ first_field s ∷ []) × (line_length s ≡ field_length s)
+-- what `strip_suffix` leaves
+last_is : (s : List ℕ) → pointwise nat_eq (drop (length s - 1) s) (10 ∷ []) ≡ eqb (get_or s (length s - 1) 0) 10
+last_is [] = refl
+last_is (c ∷ s) =
+    let i : ℕ = length (c ∷ s) - 1 in
+    rw (drop_more (c ∷ s) i 0 (omega arith), drop_all (i + 1) (c ∷ s) (omega arith)) (and-true _)
 
-cut_tab : (s : List ℕ) → Cut (9 ∷ s) (is_tabbed (9 ∷ s))
-unfolding is_tabbed is_mark first_line first_field
-cut_tab s = rw (lt-ltb 0 (suc (length s)) (omega arith)) (refl, omega arith)
-
-cut_feed : (s : List ℕ) → Cut (10 ∷ s) (is_tabbed (10 ∷ s))
-unfolding is_tabbed is_mark first_line first_field
-cut_feed s = rw (and-false (ltb 0 (suc (length s)))) (refl, refl)
-
-module _ (c : ℕ) (s : List ℕ) (e9 : eqb c 9 ≡ false) (e10 : eqb c 10 ≡ false) where
-  mark_other : is_mark c ≡ false
-  unfolding is_mark
-  mark_other = rw (e9, e10)
-
-  ltb_suc : (a b : ℕ) → ltb (suc a) (suc b) ≡ ltb a b
-  ltb_suc a b = go (ltb a b) refl
-    where
-      go : (t : Bool) → ltb a b ≡ t → ltb (suc a) (suc b) ≡ t
-      go true q = lt-ltb (suc a) (suc b) (omega (arith, ltb-true a b q))
-      go false q = le-ltb (suc a) (suc b) (omega (arith, ltb-false a b q))
-
-  tabbed_other : is_tabbed (c ∷ s) ≡ is_tabbed s
-  unfolding is_tabbed
-  tabbed_other = rw (mark_other, ltb_suc (field_length s) (length s))
-
-  cut_pushed : (b : Bool) → Cut s b → Cut (c ∷ s) b
-  unfolding first_line first_field
-  cut_pushed true (k, n) =
-      let p : suc (field_length s) + 1 ≡ suc (field_length s + 1) = omega arith in
-      (rw (mark_other, e10, e9, p) (ap (push c) k), rw (mark_other, e10, p) (omega arith))
-  cut_pushed false (k, n) = (rw (mark_other, e10, e9) (ap (push c) k), rw (mark_other, e10) (ap suc n))
-
-  cut_other : Cut s (is_tabbed s) → Cut (c ∷ s) (is_tabbed (c ∷ s))
-  cut_other k = rw tabbed_other (cut_pushed (is_tabbed s) k)
-
-pub cut : (s : List ℕ) → Cut s (is_tabbed s)
-unfolding is_tabbed is_mark first_line first_field
-cut [] = (refl, refl)
-cut (c ∷ s) = go (eqb c 9) refl (eqb c 10) refl (cut s)
-  where
-    go : (b : Bool) → eqb c 9 ≡ b → (d : Bool) → eqb c 10 ≡ d → Cut s (is_tabbed s) → Cut (c ∷ s) (is_tabbed (c ∷ s))
-    go true e d f k = subst (λ (x : ℕ). Cut (x ∷ s) (is_tabbed (x ∷ s))) (sym (eqb-true c 9 e)) (cut_tab s)
-    go false e true f k = subst (λ (x : ℕ). Cut (x ∷ s) (is_tabbed (x ∷ s))) (sym (eqb-true c 10 f)) (cut_feed s)
-    go false e false f k = cut_other c s e f k
-
--- whether a tab ends the field at a place, by the character at the field's end
-module _ (text : List ℕ) (at end : ℕ) (e : end ≡ at + field_length (drop at text)) where
-  there : get_or (drop at text) (field_length (drop at text)) 0 ≡ get_or text end 0
-  there = get_or-drop at text (field_length (drop at text)) 0 ∙ ap (λ (k : ℕ). get_or text k 0) (sym e)
-
-  pub tab_there : end < length text → get_or text end 0 ≡ 9 → is_tabbed (drop at text) ≡ true
-  unfolding is_tabbed
-  tab_there h t =
-      rw (
-        lt-ltb (field_length (drop at text)) (length (drop at text)) (omega (arith, length-drop at text)),
-        eq-eqb (get_or (drop at text) (field_length (drop at text)) 0) 9 (there ∙ t),
-      )
-
-  pub tab_other : (get_or text end 0 ≡ 9 → ⊥) → is_tabbed (drop at text) ≡ false
-  unfolding is_tabbed
-  tab_other t = rw (ne_eqb (get_or (drop at text) (field_length (drop at text)) 0) 9 (λ q. t (sym there ∙ q)))
-      (and-false (ltb (field_length (drop at text)) (length (drop at text))))
-
-  pub tab_past : length text ≤ end → is_tabbed (drop at text) ≡ false
-  unfolding is_tabbed
-  tab_past h = rw (le-ltb (field_length (drop at text)) (length (drop at text)) (omega (arith, length-drop at text)))
-
-module _ (at : ℕ) (s : List ℕ) where
-  pub tabbed_found : (v e : ℕ) → is_tabbed s ≡ true → number_of (first_field s) ≡ some v → e ≡ at + field_length s → At v (e + 1) ≡ tabbed_at at s
-  unfolding tabbed_at
-  tabbed_found v e t n q = rw (t, n, q)
-
-  pub tabbed_not : is_tabbed s ≡ false → Not ≡ tabbed_at at s
-  unfolding tabbed_at
-  tabbed_not t = rw t
-
-  pub tabbed_none : number_of (first_field s) ≡ none → Not ≡ tabbed_at at s
-  unfolding tabbed_at
-  tabbed_none n = rw n (go (is_tabbed s))
-    where
-      go : (b : Bool) → Not ≡ cond b Not Not
-      go true = refl
-      go false = refl
-
-  pub last_found : (v e : ℕ) → is_tabbed s ≡ false → number_of (first_field s) ≡ some v → e ≡ at + field_length s → At v e ≡ last_at at s
-  unfolding last_at
-  last_found v e t n q = rw (t, n, q)
-
-  pub last_tab : is_tabbed s ≡ true → Not ≡ last_at at s
-  unfolding last_at
-  last_tab t = rw t
-
-  pub last_none : number_of (first_field s) ≡ none → Not ≡ last_at at s
-  unfolding last_at
-  last_none n = rw n (go (is_tabbed s))
-    where
-      go : (b : Bool) → Not ≡ cond b Not Not
-      go true = refl
-      go false = refl
-
-module _ (text : List ℕ) (at : ℕ) where
-  -- a number that a tab ends, or that there is none, and what is made of the fields behind it
-  abbrev pub Behind : Found → Type 0
-  Behind (At v next) =
-      (k : ℕ → List (List ℕ) → Option Order) → fields_at (k v) next (drop next text) ≡ fields_at (number_then k) at (drop at text)
-  Behind Not = (k : ℕ → List (List ℕ) → Option Order) → ((v : ℕ) → k v [] ≡ none) → read.Not ≡ fields_at (number_then k) at (drop at text)
-
-  pub behind : (f : Found) → f ≡ tabbed_at at (drop at text) → Behind f
-  unfolding tabbed_at fields_at
-  behind f q = subst Behind (sym q) (go (is_tabbed s) (cut s) (number_of (first_field s)) refl)
-    where
-      s : List ℕ
-      s = drop at text
-
-      n : ℕ
-      n = field_length s
-
-      rest : drop (at + n + 1) text ≡ drop (n + 1) s
-      rest = let q : at + (n + 1) ≡ at + n + 1 = omega arith in ap (λ (k : ℕ). drop k text) (sym q) ∙ sym (drop-drop (n + 1) at text)
-
-      alone : (e : ℕ) (k : ℕ → List (List ℕ) → Option Order) → ((v : ℕ) → k v [] ≡ none) → (o : Option ℕ) → read.Not ≡ read_at e (with_number o (λ v. k v []))
-      alone e k last (some v) = ap (read_at e) (sym (last v))
-      alone e k last none = refl
-
-      go : (b : Bool) → Cut s b → (o : Option ℕ) → number_of (first_field s) ≡ o → Behind (cond b (found_at o (at + n + 1)) Not)
-      go true (c, l) (some v) m =
-          λ k.
-          let e : at + n + 1 + line_length (drop (n + 1) s) ≡ at + line_length s = omega arith in
-          rw (rest, c, m, e)
-      go true (c, l) none m = λ k last. rw (c, m)
-      go false (c, l) o m = λ k last. rw c (alone (at + line_length s) k last (number_of (first_field s)))
-
-  -- the last number of a line, or that there is none
-  abbrev pub Ending : Found → Type 0
-  Ending (At v end) = (k : ℕ → Option Order) → read_at end (k v) ≡ fields_at (number_last k) at (drop at text)
-  Ending Not = (k : ℕ → Option Order) → read.Not ≡ fields_at (number_last k) at (drop at text)
-
-  pub ending : (f : Found) → f ≡ last_at at (drop at text) → Ending f
-  unfolding last_at fields_at
-  ending f q = subst Ending (sym q) (go (is_tabbed s) (cut s) (number_of (first_field s)) refl)
-    where
-      s : List ℕ
-      s = drop at text
-
-      n : ℕ
-      n = field_length s
-
-      go : (b : Bool) → Cut s b → (o : Option ℕ) → number_of (first_field s) ≡ o → Ending (cond b Not (found_at o (at + n)))
-      go true (c, l) o m =
-          λ k.
-          rw c
-          (some_field (first_line (drop (n + 1) s)) (λ fs. read.Not ≡ read_at (at + line_length s) (number_last k (first_field s ∷ fs))) (λ f fs. refl))
-      go false (c, l) (some v) m = λ k. rw (c, m, l)
-      go false (c, l) none m = λ k. rw (c, m)
-
-pub order_is : (at : ℕ) (s : List ℕ) → fields_at (number_then after_number) at s ≡ order_at at s
-unfolding fields_at order_at order_of
-order_is at s = refl
+pub stripped :
+    (s : Bor (List ℕ)) (r : Option (Bor (List ℕ)))
+    → MatchOption r (pointwise nat_eq (drop (length s.now - 1) s.now) (10 ∷ []) ≡ false)
+    (λ x. (pointwise nat_eq (drop (length s.now - 1) s.now) (10 ∷ []) ≡ true) × (x.now ≡ take (length s.now - 1) s.now) × (length x.now + 1 ≡ length s.now))
+    → (unwrap_or r s).now ≡ unended s.now
+unfolding unended
+stripped s None h = rw (sym (last_is s.now) ∙ h)
+stripped s (Some x) h = h.1 ∙ rw (sym (last_is s.now) ∙ h.0)

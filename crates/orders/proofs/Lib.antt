@@ -1,10 +1,10 @@
 -- Laws of texts, places and choices, the claims, and what is computed.
 pub mod PlaceBytes
-pub mod Digits
-pub mod Cuts
+pub mod Fields
 pub mod Spelled
-pub mod Kept
-pub mod Progress
+pub mod Cuts
+pub mod Reading
+pub mod Accepted
 pub mod Choices
 pub mod Alike
 pub mod Reordered

@@ -1,7 +1,7 @@
 -- The lines of an accepted text in another order are accepted, and their orders are alike. Assumes nothing.
 use mathlib.Core.Bool.{Bool, true, false, cond, ◌||◌}
 use mathlib.Core.List.{List, [], ◌∷◌, ◌++◌, Permᴰ}
-use mathlib.Core.Option.{Option, none, some}
+use Rattle.std.specs.Prelude.{Option, Some, None}
 use mathlib.Core.Path.{◌≡◌, refl, sym, ap, subst, ◌∙◌}
 use Prim.Native.Nat.{ℕ, ◌+◌}
 use native.Mathlib.Omega.{arith}
@@ -62,7 +62,7 @@ step kept x next =
 -- what has to be shown of a line is shown where it is accepted
 if_taken :
     (kept : List Order) (x : Option Order) (next : Order → Answer) (y : Answer)
-    → ((o : Order) → leb place_count (length kept) ≡ false → x ≡ some o → is_used o.number kept ≡ false → Agrees (next o) y)
+    → ((o : Order) → leb place_count (length kept) ≡ false → x ≡ Some o → is_used o.number kept ≡ false → Agrees (next o) y)
     → Agrees (step kept x next) y
 if_taken kept x next y h = go (leb place_count (length kept)) x h
   where
@@ -75,19 +75,19 @@ if_taken kept x next y h = go (leb place_count (length kept)) x h
 
     go :
         (b : Bool) (x : Option Order)
-        → ((o : Order) → b ≡ false → x ≡ some o → is_used o.number kept ≡ false → Agrees (next o) y)
+        → ((o : Order) → b ≡ false → x ≡ Some o → is_used o.number kept ≡ false → Agrees (next o) y)
         → Agrees
         (cond b (Refused 35 (length kept + 1))
         (with_order x (Refused 33 (length kept + 1)) (λ o. cond (is_used o.number kept) (Refused 34 (length kept + 1)) (next o))))
         y
     go true x h = tt
-    go false none h = tt
-    go false (some o) h = last (is_used o.number kept) o (h o refl refl)
+    go false None h = tt
+    go false (Some o) h = last (is_used o.number kept) o (h o refl refl)
 
 step_taken :
     (kept : List Order) (x : Option Order) (o : Order) (next : Order → Answer)
     → leb place_count (length kept) ≡ false
-    → x ≡ some o
+    → x ≡ Some o
     → is_used o.number kept ≡ false
     → step kept x next ≡ next o
 step_taken kept x o next room e u = rw (room, e, u)
@@ -132,10 +132,10 @@ exchanged k a b ls =
     both :
         (o p : Order)
         → leb place_count (length k) ≡ false
-        → order_of a ≡ some o
+        → order_of a ≡ Some o
         → is_used o.number k ≡ false
         → leb place_count (length (k ++ (o ∷ []))) ≡ false
-        → order_of b ≡ some p
+        → order_of b ≡ Some p
         → is_used p.number (k ++ (o ∷ [])) ≡ false
         → Agrees (read_from (k ++ (o ∷ []) ++ (p ∷ [])) ls) (read_from k (b ∷ a ∷ ls))
     both o p room e u room' f w =

@@ -33,11 +33,11 @@ lines_whole (c ∷ t) = go (eqb c 10) refl (lines_of t) (lines_whole t)
     go false e (l ∷ ls) (q, w) = ((e, q), w)
 
 -- a line in front of a text
-ended_line : (l : List ℕ) (t : List ℕ) → Whole l → lines_of (l ++ (10 ∷ t)) ≡ l ∷ lines_of t
+pub ended_line : (l : List ℕ) (t : List ℕ) → Whole l → lines_of (l ++ (10 ∷ t)) ≡ l ∷ lines_of t
 ended_line [] t w = refl
 ended_line (c ∷ l) t (e, w) = rw (e, ended_line l t w)
 
-last_line : (l : List ℕ) → Whole l → Filled l → lines_of l ≡ l ∷ []
+pub last_line : (l : List ℕ) → Whole l → Filled l → lines_of l ≡ l ∷ []
 last_line [] w f = absurd f
 last_line (c ∷ []) (e, w) f = rw e
 last_line (c ∷ d ∷ l) (e, w) f = rw (e) (ap (push c) (last_line (d ∷ l) w tt))

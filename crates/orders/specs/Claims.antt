@@ -1,7 +1,6 @@
 -- Document 02, 2026-09: its claims about texts and allowances. Statements only; proofs/Claimed.antt proves them.
-use Rattle.std.specs.Prelude.{true, false, ◌⊎◌, ◌≡◌, ℕ, ◌-◌, ◌*◌, ◌≤◌, ◌<◌, length, get_or, drop, replicate}
+use Rattle.std.specs.Prelude.{true, false, ◌⊎◌, ◌≡◌, ℕ, ◌-◌, ◌*◌, ◌≤◌, ◌<◌, length, get_or, drop, replicate, Some}
 use mathlib.Core.List.{List, [], ◌∷◌, ◌++◌, map, Permᴰ}
-use Rattle.std.proofs.Math.Option.{some}
 use Rattle.orders.specs.Lines.{lines_of, order_of}
 use Rattle.orders.specs.Places.{place_count, place_size, orders_length, unused, orders_in, places_of, no_orders}
 use Rattle.orders.specs.Allowances.{covers, allowance_of}
@@ -47,7 +46,7 @@ AnyOrder =
 pub record AsInText (text after : List ℕ) : Type 0 where
   pub whole : length after ≡ orders_length
   pub few : length (lines_of text) ≤ place_count
-  pub used : map some (orders_in (length (lines_of text)) after) ≡ map order_of (lines_of text)
+  pub used : map Some (orders_in (length (lines_of text)) after) ≡ map order_of (lines_of text)
   pub rest :
       orders_in (place_count - length (lines_of text)) (drop (place_size * length (lines_of text)) after)
       ≡ replicate (place_count - length (lines_of text)) unused

@@ -1,6 +1,5 @@
 -- Document 02, 2026-09: the lines of a text, and the order that a line is. Definitions only.
-use Rattle.std.specs.Prelude.{cond, List, [], ◌∷◌, ℕ, leb, eqb}
-use Rattle.std.proofs.Math.Option.{Option, none, some}
+use Rattle.std.specs.Prelude.{cond, List, [], ◌∷◌, ℕ, leb, eqb, Option, Some, None}
 use Rattle.common.specs.Texts.{push, fields_of}
 use Rattle.orders.specs.Numbers.{number_of}
 use Rattle.orders.specs.declared.places.Order.{Order}
@@ -12,25 +11,25 @@ lines_of (c ∷ s) = cond (eqb c 10) ([] ∷ lines_of s) (push c (lines_of s))
 
 -- what a number makes of a line, which is no order where there is none
 abbrev pub with_number : Option ℕ → (ℕ → Option Order) → Option Order
-with_number (some n) next = next n
-with_number none next = none
+with_number (Some n) next = next n
+with_number None next = None
 
 -- a number, and the fields behind it
 abbrev pub number_then : (ℕ → List (List ℕ) → Option Order) → List (List ℕ) → Option Order
-number_then next [] = none
+number_then next [] = None
 number_then next (f ∷ fs) = with_number (number_of f) (λ n. next n fs)
 
 -- a number, and no field behind it
 abbrev pub number_last : (ℕ → Option Order) → List (List ℕ) → Option Order
-number_last next [] = none
+number_last next [] = None
 number_last next (f ∷ []) = with_number (number_of f) next
-number_last next (f ∷ g ∷ fs) = none
+number_last next (f ∷ g ∷ fs) = None
 
 -- "order number, first tick, last tick, watts", and not "with first after last": what a line comes to by the fields behind its last tick, behind
 -- its first and behind its number
 abbrev pub after_last : ℕ → ℕ → ℕ → List (List ℕ) → Option Order
 after_last number first last =
-    number_last (λ watts. cond (leb first last) (some (record { number = number; first = first; last = last; watts = watts })) none)
+    number_last (λ watts. cond (leb first last) (Some (record { number = number; first = first; last = last; watts = watts })) None)
 
 abbrev pub after_first : ℕ → ℕ → List (List ℕ) → Option Order
 after_first number first = number_then (after_last number first)

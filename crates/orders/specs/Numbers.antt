@@ -1,7 +1,6 @@
 -- Document 02, 2026-09: the numbers of a text, in ASCII. Definitions only.
-use Rattle.std.specs.Prelude.{Bool, true, false, cond, not, ◌&&◌, List, [], ◌∷◌, ℕ, leb, eqb}
-use Rattle.std.proofs.Math.Option.{Option, none, some}
-use Rattle.common.specs.Texts.{all_digits, value_from}
+use Rattle.std.specs.Prelude.{Bool, true, false, cond, not, List, [], ◌∷◌, ℕ, eqb, Option, None}
+use Rattle.common.specs.Texts.{number_in}
 
 -- "without a needless leading zero": one character, or the first is not 0
 abbrev pub is_plain : List ℕ → Bool
@@ -15,4 +14,4 @@ most = 4294967295
 
 -- "Numbers are decimal digits without a needless leading zero."
 unfoldable pub number_of : List ℕ → Option ℕ
-number_of s = cond (is_plain s && (all_digits 10 s && leb (value_from 10 0 s) most)) (some (value_from 10 0 s)) none
+number_of s = cond (is_plain s) (number_in 10 most s) None

@@ -1,10 +1,8 @@
 -- Document 02, 2026-09: a whole text, and the two calls that read one. Definitions only.
-use Rattle.std.specs.Prelude.{cond, List, [], ◌∷◌, ◌++◌, ℕ, ◌+◌, leb, eqb, length}
-use Rattle.std.proofs.Math.Option.{Option, none, some}
+use Rattle.std.specs.Prelude.{cond, List, [], ◌∷◌, ◌++◌, ℕ, ◌+◌, leb, eqb, length, Option, Some, None}
 use Rattle.orders.specs.Lines.{lines_of, order_of}
 use Rattle.orders.specs.Places.{place_count, orders_length, orders_bytes, is_used}
 use Rattle.orders.specs.declared.places.Order.{Order}
-use Rattle.orders.specs.declared.texts.Outcome.{Outcome}
 
 -- the orders of an accepted text, or the number of what is turned away and the line, counted from 1, at which it is
 pub data Answer : Type 0 where
@@ -12,8 +10,8 @@ pub data Answer : Type 0 where
   Refused : ℕ → ℕ → Answer
 
 abbrev pub with_order : Option Order → Answer → (Order → Answer) → Answer
-with_order (some o) refused next = next o
-with_order none refused next = refused
+with_order (Some o) refused next = next o
+with_order None refused next = refused
 
 -- "Turned away: 33, a line not of that form or with first after last; 34, an order number used twice; 35, a 65th line; asked line by line as 35,
 -- 33, 34": the lines behind those whose orders are kept
@@ -29,6 +27,10 @@ unfoldable pub answer_to : List ℕ → Answer
 answer_to text = read_from [] (lines_of text)
 
 -- the number returned, and the line
+pub record Outcome : Type 0 where
+  pub number : ℕ
+  pub line : ℕ
+
 abbrev pub outcome_of : Answer → Outcome
 outcome_of (Accepted os) = record { number = 0; line = 0 }
 outcome_of (Refused number line) = record { number = number; line = line }

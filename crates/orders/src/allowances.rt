@@ -5,6 +5,7 @@ ghost use Rattle.orders.specs.Allowances.{covers, chosen, allowance_of};
 use super::places::Order;
 
 // The watts that count so far, and the least order number that would count instead.
+// Kept: 0 where no order counts yet; `chosen` is said of it, and an Option of both would ask the same question twice.
 #[derive(Clone, Copy)]
 pub struct Choice {
     pub least: u64,
@@ -12,26 +13,26 @@ pub struct Choice {
 }
 
 // The order's ticks have 32 bits, the tick's number has 64.
+#[tactic(auto, unfolding(crate::specs::Allowances::covers))]
 fn covers_tick(order: Order, tick: u64) -> bool
     ensures { result ≡ covers tick order }
 {
-    ((order.first as u64) <= tick) & (tick <= (order.last as u64))
+    (u64::from(order.first) <= tick) & (tick <= u64::from(order.last))
 }
 
 impl Choice {
+    #[tactic(auto, unfolding(crate::specs::Allowances::chosen))]
     fn after(self, order: Order, tick: u64) -> Choice
         ensures { result ≡ chosen tick self order }
     {
-        if !covers_tick(order, tick) {
-            return self;
-        }
-        let number = order.number as u64;
-        if number < self.least {
-            return self;
-        }
-        Choice {
-            least: number + 1,
-            watts: order.watts,
+        let number = u64::from(order.number);
+        if covers_tick(order, tick) && self.least <= number {
+            Choice {
+                least: number + 1,
+                watts: order.watts,
+            }
+        } else {
+            self
         }
     }
 }
@@ -41,14 +42,11 @@ impl Choice {
 pub fn allowance(orders: &[u8], tick: u64, watts: u32) -> u32
     ensures { result ≡ allowance_of orders.now tick watts }
 {
-    let count = orders.len() / Order::SIZE;
-    let mut choice = Choice { least: 0, watts };
-    let mut i = 0;
-    while i < count {
-        let at = Order::SIZE * i;
-        let order = Order::read(&orders[at..at + Order::SIZE]);
-        choice = choice.after(order, tick);
-        i += 1;
-    }
+    let (places, _) = orders.as_chunks();
+    let choice = places
+        .iter()
+        .fold(Choice { least: 0, watts }, |choice, place| {
+            choice.after(Order::read(place), tick)
+        });
     choice.watts
 }

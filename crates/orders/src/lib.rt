@@ -3,40 +3,56 @@
 #![tactic(auto)]
 
 mod allowances;
+mod kept;
 mod lines;
 mod numbers;
 mod places;
+mod refusals;
 mod texts;
 
 ghost use Rattle.std.specs.Prelude.{◌≡◌};
+ghost use Rattle.common.specs.Refusals.{number_of};
+ghost use Rattle.orders.specs.Refusals.{number};
 ghost use Rattle.orders.specs.Texts.{Taken, taken_of, refused_line_of};
 
 pub use allowances::allowance;
+use common::{answered, unless};
+use kept::Kept;
 pub use places::{ORDERS_LENGTH, no_orders};
-use texts::{Refusal, read_text};
+use refusals::Refusal;
+use texts::read_text;
+
+// Kept: numbers, and slices of any length, as C calls `take_orders` and `refused_line` (`orders_c`).
 
 // Replaces the orders in force by those of a text. Returns 0, or the number of the first question that gets a no, and then nothing has
-// changed. The text is read into bytes of its own, so that a refused one leaves nothing half replaced.
+// changed.
 pub fn take_orders(text: &[u8], orders: &mut [u8]) -> u32
     ensures { ◌≡◌ {A = Taken} (record { number = result; orders = orders.new })
         (taken_of text.now orders.old) }
 {
-    if orders.len() != ORDERS_LENGTH {
-        return Refusal::ORDERS_LENGTH;
-    }
-    let mut fresh = [0u8; ORDERS_LENGTH];
-    let outcome = read_text(text, &mut fresh);
-    if outcome.number == Refusal::NONE {
-        orders.copy_from_slice(&fresh);
-    }
-    outcome.number
+    answered(replace_orders(text, orders))
+}
+
+// The text is read into places of its own, so that a refused one leaves nothing half replaced.
+#[tactic(auto, using(crate::proofs::Reading::taken_short, crate::proofs::Reading::taken_refused))]
+fn replace_orders(text: &[u8], orders: &mut [u8]) -> Result<(), Refusal>
+    ensures { ◌≡◌ {A = Taken} (record { number = number_of number result; orders = orders.new })
+        (taken_of text.now orders.old) }
+{
+    unless(orders.len() == ORDERS_LENGTH, Refusal::OrdersLength)?;
+    let mut kept = Kept::new();
+    let outcome = read_text(text, &mut kept);
+    outcome?;
+    orders.copy_from_slice(&kept.bytes());
+    Ok(())
 }
 
 // The line, counted from 1, at which a text is refused; 0 for an accepted text.
 pub fn refused_line(text: &[u8]) -> u32
     ensures { result ≡ refused_line_of text.now }
 {
-    let mut fresh = [0u8; ORDERS_LENGTH];
-    let outcome = read_text(text, &mut fresh);
-    outcome.line
+    match read_text(text, &mut Kept::new()) {
+        Ok(()) => 0,
+        Err(refused) => refused.line,
+    }
 }

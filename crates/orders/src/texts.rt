@@ -1,85 +1,67 @@
 // A whole text.
-ghost use Rattle.std.specs.Prelude.{◌≡◌, ◌+◌, ◌≤◌, min, length};
-ghost use Rattle.orders.specs.Places.{place_count, orders_length};
-ghost use Rattle.orders.specs.Texts.{Refused, answer_to, outcome_of, bytes_after};
+ghost use Rattle.std.specs.Prelude.{◌≡◌, ◌+◌, length};
+ghost use Rattle.orders.specs.Lines.{lines_of};
+ghost use Rattle.orders.specs.Texts.{Refused, read_from};
+ghost use Rattle.orders.specs.Refusals.{number};
+ghost use Rattle.orders.specs.Scans.{Adds, unended, refused_at, answer_in};
 
-use super::lines::{Read, order_at};
-use super::places::{PLACE_COUNT, clear, is_used, put};
+use super::kept::Kept;
+use super::lines::order_of;
+use super::places::{Order, PLACE_COUNT};
+use super::refusals::Refusal;
+use common::unless;
 
-// The numbers that a text is answered with: 0, or that of the first question that gets a no.
-#[derive(Clone, Copy)]
-pub struct Refusal;
+const LINE_FEED: u8 = b'\n';
 
-impl Refusal {
-    pub const NONE: u32 = 0;
-
-    // Asked before any line, and by a tick too.
-    pub const ORDERS_LENGTH: u32 = 43;
-
-    // Of each line, in the order of asking.
-    pub const LINE_65: u32 = 35;
-
-    pub const LINE_FORM: u32 = 33;
-
-    pub const NUMBER_USED: u32 = 34;
-}
-
-// The number that a text is answered with, and the line at which it is refused.
-#[derive(Clone, Copy)]
-pub struct Outcome {
-    pub number: u32,
+// A refused text: why, and at which line, counted from 1.
+#[derive(Clone, Copy, Debug, PartialEq, Eq)]
+pub(crate) struct RefusedLine {
+    pub refusal: Refusal,
     pub line: u32,
 }
 
-impl Outcome {
-    // At the line behind so many.
-    fn refused(number: u32, before: usize) -> Outcome
-        requires { before ≤ place_count }
-        ensures { result ≡ outcome_of (Refused number (before + 1)) }
-    {
-        Outcome {
-            number,
-            line: (before as u32) + 1,
-        }
+// A line without the line feed that ends it, if one does.
+fn unended(line: &[u8]) -> &[u8]
+    ensures { result.now ≡ unended line.now }
+{
+    line.strip_suffix(&[LINE_FEED]).unwrap_or(line)
+}
+
+impl From<RefusedLine> for Refusal {
+    ghost from_gives = { λ refused refusal. refusal ≡ refused.refusal };
+
+    fn from(refused: RefusedLine) -> Refusal {
+        refused.refusal
     }
 }
 
-// Where the line behind a line's end begins.
-fn next_line(text: &[u8], end: usize) -> usize
-    ensures { result ≡ min (end + 1) (length text.now) }
+// The order of a line behind the orders kept.
+fn order_behind(kept: &Kept, line: &[u8]) -> Result<Order, Refusal>
+    ensures { Adds (λ refusal. Refused (number refusal) (length kept.now + 1)) kept.now line.now result }
 {
-    if end < text.len() {
-        end + 1
-    } else {
-        text.len()
-    }
+    unless(kept.len() < PLACE_COUNT, Refusal::Line65)?;
+    let order = order_of(line).ok_or(Refusal::LineForm)?;
+    unless(!kept.is_used(order.number), Refusal::NumberUsed)?;
+    Ok(order)
 }
 
-// Reads a text line by line, each order into the next place. What the places hold after a refusal counts for nothing.
-pub(crate) fn read_text(text: &[u8], orders: &mut [u8]) -> Outcome
-    requires { length orders.old ≡ orders_length }
-    ensures { (result ≡ outcome_of (answer_to text.now))
-        × (orders.new ≡ bytes_after (answer_to text.now) orders.new) }
+// The same, and the line at which the text is refused.
+fn next_order(kept: &Kept, line: &[u8]) -> Result<Order, RefusedLine>
+    ensures { Adds refused_at kept.now line.now result }
 {
-    clear(orders);
-    let mut count: usize = 0;
-    let mut at: usize = 0;
-    while at < text.len() {
-        if count == PLACE_COUNT {
-            return Outcome::refused(Refusal::LINE_65, count);
-        }
-        let Read::Line { order, end } = order_at(text, at) else {
-            return Outcome::refused(Refusal::LINE_FORM, count);
-        };
-        if is_used(order.number, count, orders) {
-            return Outcome::refused(Refusal::NUMBER_USED, count);
-        }
-        put(order, count, orders);
-        count += 1;
-        at = next_line(text, end);
+    order_behind(kept, line).map_err(|refusal| RefusedLine {
+        refusal,
+        line: kept.len() as u32 + 1,
+    })
+}
+
+// Reads a text line by line, each order behind those kept. What is kept after a refusal counts for nothing.
+pub(crate) fn read_text(text: &[u8], kept: &mut Kept) -> Result<(), RefusedLine>
+    ensures { answer_in kept.new result ≡ read_from kept.old (lines_of text.now) }
+{
+    for line in text.split_inclusive(|character| *character == LINE_FEED) {
+        let order = next_order(kept, unended(line))?;
+        kept.push(order);
     }
-    Outcome {
-        number: Refusal::NONE,
-        line: 0,
-    }
+    Ok(())
 }

@@ -1,9 +1,11 @@
 -- Document 02, 2026-07: the host's call, the number that it returns, and every byte that it leaves. Definitions only.
-use Rattle.std.specs.Prelude.{Bool, false, ◌&&◌, List, [], ◌∷◌, ℕ, eqb, leb, length}
-use Rattle.common.specs.Refusals.{Asked, asks, refusal_of, done_unless}
+use Rattle.std.specs.Prelude.{Bool, false, ◌&&◌, List, [], ◌∷◌, ℕ, eqb, leb, length, Result, ⊤}
+use Rattle.common.specs.Refusals.{Asked, asks, refusal_of, done_unless, number_of}
 use Rattle.little_endian.specs.Numbers.{byte_at}
 use Rattle.little_endian.specs.Flags.{bit_value}
 use Rattle.plug_sensing.specs.Sensing.{sensed}
+use Rattle.plug_sensing.specs.declared.Refusal.{Refusal}
+use Rattle.plug_sensing.specs.declared.Refusal.TheVariants.{State, Room, Millivolts}
 use Rattle.plug_sensing.specs.declared.Sensed.{Sensed}
 
 -- "The new part keeps one bool, false at first, as its own state": one byte, 0 for false and 1 for true.
@@ -27,6 +29,16 @@ has_state state = asks (eqb (length state) 1 && leb (byte_at state 0) 1) 6
 
 abbrev pub has_room : List ℕ → Asked
 has_room plug = asks (eqb (length plug) 1) 8
+
+-- the numbers of the refusals
+abbrev pub number : Refusal → ℕ
+number State = 6
+number Room = 8
+number Millivolts = 31
+
+-- the number that the host is told: 0 where nothing is refused
+abbrev pub told : Result ⊤ Refusal → ℕ
+told = number_of number
 
 -- what the call asks before it does anything, in the order of asking
 unfoldable pub rows : List ℕ → ℕ → List ℕ → List Asked

@@ -1,14 +1,14 @@
 // The plug of a lead with the system B coupler (GB/T): millivolts of detection point 1 in, a plug bit out, one bool kept. Document 02,
 // 2026-07, with the figures of source document 000, Table B.2. It knows nothing of leads and posts: the host puts the bit into a lead's
 // contacts. Rests on the promises of `common` and `little_endian`.
-#![tactic(auto)]
+#![tactic(auto, using(std::proofs::lemmas::Bool::Decides::nat_tests), unfolding(crate::specs::All::plug_rules))]
 
 ghost use Rattle.std.specs.Prelude.{◌≡◌};
+ghost use Rattle.std.proofs.Common.{rules};
 ghost use Rattle.plug_sensing.specs.Sensing.{sensed};
-ghost use Rattle.plug_sensing.specs.Calls.{Answer, answer};
+ghost use Rattle.plug_sensing.specs.Calls.{Answer, answer, number, told};
 
-use common::is_between;
-use little_endian::flag;
+use common::{Numbered, answered, is_between, unless};
 
 // The table's "Voltage 1", in millivolts, by its names; both ends belong to a range.
 #[derive(Clone, Copy)]
@@ -34,18 +34,22 @@ impl Voltage1 {
 // The largest value that is taken, in millivolts.
 pub const LARGEST_VALUE: u32 = 20000;
 
-// The numbers that the call returns: 0, or that of the first question that gets a no.
-#[derive(Clone, Copy)]
-pub struct Refusal;
+// Why the call is refused.
+#[derive(Clone, Copy, Debug, PartialEq, Eq)]
+pub enum Refusal {
+    State = 6,
+    Room = 8,
+    Millivolts = 31,
+}
 
-impl Refusal {
-    pub const NONE: u32 = 0;
+impl Numbered for Refusal {
+    ghost number = { number };
 
-    pub const STATE: u32 = 6;
+    fn number(self) -> u32 {
+        self as u32
+    }
 
-    pub const ROOM: u32 = 8;
-
-    pub const MILLIVOLTS: u32 = 31;
+    ghost never_0 = { Prim.search rules };
 }
 
 // What a value says: whether the plug is closed, and, for the value after it, whether this one lay in the lowest range.
@@ -67,26 +71,27 @@ pub fn sense(was_lowest: bool, millivolts: u32) -> Sensed
     }
 }
 
+// The call below, with its reason where it is refused.
+fn tell_plug(state: &mut [u8], millivolts: u32, plug: &mut [u8]) -> Result<(), Refusal>
+    ensures { ◌≡◌ {A = Answer} (record { number = told result; state = state.new; plug = plug.new })
+        (answer state.old millivolts plug.old) }
+{
+    unless(millivolts <= LARGEST_VALUE, Refusal::Millivolts)?;
+    let state = state.as_mut_array::<1>().ok_or(Refusal::State)?;
+    unless(state[0] <= 1, Refusal::State)?;
+    let plug = plug.as_mut_array().ok_or(Refusal::Room)?;
+    let sensed = sense(state[0] == 1, millivolts);
+    *state = [u8::from(sensed.lowest)];
+    *plug = [u8::from(sensed.closed)];
+    Ok(())
+}
+
 // Writes the plug bit, 1 for closed, and keeps the bool in the state, one byte that is 0 at first. Returns 0, or the number of the first
 // question that gets a no, and then nothing has changed.
+// Kept: a number, and slices of any length, as C calls this function (`plug_sensing_c`).
 pub fn plug_sense(state: &mut [u8], millivolts: u32, plug: &mut [u8]) -> u32
     ensures { ◌≡◌ {A = Answer} (record { number = result; state = state.new; plug = plug.new })
         (answer state.old millivolts plug.old) }
 {
-    if LARGEST_VALUE < millivolts {
-        return Refusal::MILLIVOLTS;
-    }
-    if state.len() != 1 {
-        return Refusal::STATE;
-    }
-    if 1 < state[0] {
-        return Refusal::STATE;
-    }
-    if plug.len() != 1 {
-        return Refusal::ROOM;
-    }
-    let sensed = sense(state[0] == 1, millivolts);
-    state[0] = flag(sensed.lowest, 1);
-    plug[0] = flag(sensed.closed, 1);
-    Refusal::NONE
+    answered(tell_plug(state, millivolts, plug))
 }

@@ -10,9 +10,10 @@ use Rattle.common.specs.Parts.{joined}
 use Rattle.post.specs.Heads.{head_size, head_of}
 use Rattle.post.specs.Rules.{TickInput, decided_at, want_after, level_after, lead_after, shown_at, shown_after}
 use Rattle.post.specs.Calls.{leads_of, state_after}
-use Rattle.post.specs.Turns.{empty_turn, decided_turn, turn_at, among, commanded_turn, turn_shown}
+use Rattle.lead_records.specs.Turns.{empty_turn, decided_turn, commanded_turn, turn_shown}
+use Rattle.post.specs.Turns.{turn_at, among}
 use Rattle.post.specs.declared.head.Head.{Head}
-use Rattle.post.specs.declared.turns.Turn.{Turn}
+use Rattle.lead_records.specs.declared.turns.Turn.{Turn}
 use Rattle.lead.specs.declared.state.Lead.{Lead}
 use Rattle.common.proofs.Joined.{joined_same}
 use Rattle.post.proofs.Tables.{among_in, among_past, empty_wants}

@@ -1,21 +1,34 @@
 -- What a call returns and leaves, done or refused; r is the number that the code worked out. Assumes nothing.
-use mathlib.Core.List.{List}
+use mathlib.Core.List.{List, [], ◌∷◌}
 use mathlib.Core.Path.{◌≡◌, refl, sym, ap, ◌∙◌}
 use Prim.Native.Nat.{ℕ, ◌<◌}
-use lib.Dec.{ltb, ltb→lt}
+use lib.Dec.{eqb, ltb, ltb→lt}
 use lib.ListN.{length}
-use Rattle.common.specs.Refusals.{refusal_of}
-use Rattle.common.proofs.Refused.{carried_out, turned_away, either_way, left_passes}
+use Rattle.common.specs.Refusals.{Asked, asks, refusal_of}
+use Rattle.common.proofs.Refused.{carried_out, turned_away, either_way, left_passes, first_refused, then_asked}
 use Rattle.common.proofs.Joined.{joined_length}
 use Rattle.lead.specs.Leads.{fresh}
 use Rattle.lead_records.specs.Outputs.{output_size}
 use Rattle.lead_records.proofs.Shown.{output_length_lem}
-use Rattle.post.specs.Heads.{head_of}
+use Rattle.post.specs.Heads.{head_of, state_length}
 use Rattle.post.specs.Rules.{TickInput, tick_input, shown_at, shown_after, post_bytes}
 use Rattle.post.specs.Refusals.{head_rows, setup_rows, input_rows, tick_rows}
 use Rattle.post.specs.Calls.{SetUp, setup_of, leads_of, state_after, Ticked, tick_of}
 use Rattle.post.specs.declared.head.Head.{Head}
-use Rattle.post.proofs.Taken.{tick_taken}
+use Rattle.post.proofs.Taken.{head_met, tick_taken}
+
+-- setup's questions, the head's first
+module _ (h : Head) (room : ℕ) where
+  abbrev fifth : List Asked
+  fifth = asks (eqb room (state_length h.leads)) 5 ∷ []
+
+  pub by_head : {r : ℕ} → r ≡ refusal_of (head_rows h) → (r ≡ 0 → ⊥) → r ≡ refusal_of (setup_rows h room)
+  unfolding setup_rows
+  by_head e n = e ∙ first_refused (head_rows h) fifth (λ z. n (e ∙ z))
+
+  pub by_length : refusal_of (head_rows h) ≡ 0 → refusal_of fifth ≡ refusal_of (setup_rows h room)
+  unfolding setup_rows
+  by_length z = then_asked (head_rows h) fifth (head_met h z)
 
 module _ (h : Head) (state : List ℕ) {r : ℕ} (e : r ≡ refusal_of (setup_rows h (length state))) where
   pub setup_done :

@@ -3,10 +3,10 @@ use mathlib.Core.Bool.{Bool, true, false}
 use mathlib.Core.List.{List, [], ◌∷◌}
 use mathlib.Core.Logic.{◌⊎◌, inl, inr}
 use mathlib.Core.Path.{◌≡◌, refl, sym, ap, subst, ◌∙◌}
-use Prim.Native.Nat.{ℕ, zero, suc, ◌+◌, ◌-◌, ◌*◌, ◌≤◌, ◌<◌}
+use Prim.Native.Nat.{ℕ, zero, suc, ◌+◌, ◌*◌, ◌≤◌, ◌<◌}
 use native.Mathlib.Omega.{arith}
 use lib.Dec.{ltb, eqb}
-use lib.ListN.{length, get_or, set, take, drop}
+use lib.ListN.{length, get_or, set}
 use lib.Seq.{get_or-set_same, get_or-set_other}
 use borrow.Author.Tests.{eqb-true, eqb-false, ltb-true, ltb-false, lt-ltb, le-ltb}
 use Rattle.sharing.specs.Level.{want_of}
@@ -15,15 +15,15 @@ use Rattle.lead.specs.Power.{wanted_watts}
 use Rattle.lead.specs.declared.state.Ratings.{Ratings}
 use Rattle.common.proofs.Bools.{at_or_past}
 use Rattle.lead.proofs.Commands.{watts_are, want_0}
-use Rattle.lead_records.specs.States.{state_size, decode}
-use Rattle.lead_records.specs.Inputs.{input_size, input_of}
-use Rattle.post.specs.Heads.{head_size, limit_size}
+use Rattle.lead_records.specs.States.{decode}
+use Rattle.lead_records.specs.Inputs.{input_of}
+use Rattle.post.specs.Heads.{state_part, input_part}
 use Rattle.post.specs.Rules.{tick_input}
 use Rattle.post.specs.Calls.{leads_of}
-use Rattle.post.specs.Turns.{empty_turn, decided_turn, turn_at, among}
+use Rattle.lead_records.specs.Turns.{empty_turn, decided_turn}
+use Rattle.post.specs.Turns.{turn_at, among}
 use Rattle.post.specs.declared.head.Head.{Head}
-use Rattle.post.specs.declared.turns.Turn.{Turn}
-use Rattle.common.proofs.Joined.{cut}
+use Rattle.lead_records.specs.declared.turns.Turn.{Turn}
 
 pub table_of_empty : {r : Turn} → r ≡ empty_turn → (k : ℕ) → get_or (r ∷ r ∷ r ∷ r ∷ []) k empty_turn ≡ empty_turn
 table_of_empty e zero = e
@@ -97,15 +97,11 @@ module _ (c : Ratings) where
       go false q =
           rw (get_or-set_other turns i k turn empty_turn (eqb-false k i q)) (get_or-set_other wants i k want 0 (eqb-false k i q) ∙ before k)
 
--- the turn of lead i, from its records as the code cuts them out
-module _ (h : Head) (state input : List ℕ) (i : ℕ) where
-  abbrev state_record : List ℕ
-  state_record = take (head_size + state_size * i + state_size - (head_size + state_size * i)) (drop (head_size + state_size * i) state)
-
-  abbrev input_record : List ℕ
-  input_record = take (limit_size + input_size * i + input_size - (limit_size + input_size * i)) (drop (limit_size + input_size * i) input)
-
-  pub turn_cut :
-      decided_turn h.ratings (decode state_record) (input_of input_record h.ratings.resistance) ≡ turn_at h (tick_input input) (leads_of state) i
-  unfolding leads_of
-  turn_cut = rw (cut head_size state_size i _ state refl, cut limit_size input_size i _ input refl)
+-- the turn of lead i, from its records
+pub turn_of :
+    (h : Head) (state input : List ℕ) (i : ℕ) {state_record input_record : List ℕ}
+    → state_record ≡ state_part state i
+    → input_record ≡ input_part input i
+    → decided_turn h.ratings (decode state_record) (input_of input_record h.ratings.resistance) ≡ turn_at h (tick_input input) (leads_of state) i
+unfolding leads_of
+turn_of h state input i e f = rw (e, f) refl

@@ -1,7 +1,7 @@
 -- What it says that nothing is refused: of a head, of a setup, of a good state, and of a tick. Assumes nothing.
 use mathlib.Core.Bool.{Bool, true, false, ◌&&◌}
 use mathlib.Core.List.{List, [], ◌∷◌}
-use mathlib.Core.Path.{◌≡◌, refl, ◌∙◌}
+use mathlib.Core.Path.{◌≡◌, refl}
 use Prim.Native.Nat.{ℕ, ◌≤◌, ◌<◌}
 use native.Mathlib.Omega.{arith}
 use lib.Dec.{T, leb, eqb, leb→le, eqb→eq}
@@ -11,7 +11,7 @@ use borrow.Author.Tests.{eq-eqb, ne_eqb}
 use Rattle.common.specs.Parts.{every}
 use Rattle.common.specs.Refusals.{asks, refusal_of}
 use Rattle.common.proofs.Bools.{is_true, between_lo, between_hi}
-use Rattle.common.proofs.Refused.{AllMet, all_met, then_asked, none_refused}
+use Rattle.common.proofs.Refused.{AllMet, all_met, none_refused}
 use Rattle.readings.specs.Readings.{allowed_resistance}
 use Rattle.lead_records.specs.States.{good_state}
 use Rattle.post.specs.Heads.{head_size, state_length, input_length, output_length, head_of, state_part}
@@ -56,12 +56,6 @@ module _ (h : Head) (room : ℕ) (none : refusal_of (setup_rows h room) ≡ 0) w
   pub setup_head : refusal_of (head_rows h) ≡ 0
   unfolding setup_rows
   setup_head = none_refused (head_rows h) (asks (eqb room (state_length h.leads)) 5 ∷ []) none
-
-  pub setup_room : room ≡ state_length h.leads
-  unfolding setup_rows
-  setup_room =
-      let five = asks (eqb room (state_length h.leads)) 5 ∷ [] in
-      eqb→eq room (state_length h.leads) (all_met five tt (then_asked (head_rows h) five (head_met h setup_head) ∙ none)).0
 
 -- the questions of a good state, as the code asks them one after the other; h is the head that it read
 module _ (state : List ℕ) where

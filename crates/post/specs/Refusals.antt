@@ -1,13 +1,29 @@
 -- Document 01, 'The post's two calls': what setup and tick ask before they do anything, in the order of asking, each with its number. Definitions only.
-use Rattle.std.specs.Prelude.{Bool, ◌&&◌, List, [], ◌∷◌, ◌++◌, ℕ, leb, eqb, length}
+use Rattle.std.specs.Prelude.{Bool, ◌&&◌, List, [], ◌∷◌, ◌++◌, ℕ, leb, eqb, length, ◌≡◌, Result, MatchResult}
 use Rattle.common.specs.Tests.{between}
 use Rattle.common.specs.Parts.{every}
 use Rattle.common.specs.Refusals.{Asked, asks, refusal_of}
 use Rattle.readings.specs.Readings.{allowed_resistance}
 use Rattle.lead_records.specs.States.{good_state}
 use Rattle.lead_records.specs.Inputs.{good_input}
-use Rattle.post.specs.Heads.{most_leads, state_length, input_length, output_length, head_of, state_part, input_part}
+use Rattle.post.specs.Heads.{most_leads, state_length, input_length, output_length, head_from, head_of, state_part, input_part}
 use Rattle.post.specs.declared.head.Head.{Head}
+use Rattle.post.specs.declared.names.Refusal.{Refusal}
+use Rattle.setup_numbers.specs.declared.SetupNumbers.{SetupNumbers}
+use Rattle.post.specs.declared.names.Refusal.TheVariants.{Leads, RatedVolts, RatedAmperes, CableResistance, MeterError, StateLength, State, InputLength, OutputLength, Input}
+
+-- the number that the host gets of a refusal
+abbrev pub number : Refusal → ℕ
+number Leads = 1
+number RatedVolts = 2
+number RatedAmperes = 3
+number CableResistance = 4
+number MeterError = 32
+number StateLength = 5
+number State = 6
+number InputLength = 7
+number OutputLength = 8
+number Input = 9
 
 -- 2026-08: "Turned away: 32, when either e is above 50"
 abbrev pub most_error : ℕ
@@ -22,6 +38,12 @@ head_rows h =
     ∷ asks (allowed_resistance h.ratings.resistance) 4
     ∷ asks (leb h.ratings.errors.volts most_error && leb h.ratings.errors.amperes most_error) 32
     ∷ []
+
+-- what comes of the numbers that setup is given: the head, where these rows refuse nothing, or the refusal
+abbrev pub HeadTaken : SetupNumbers → Result Head Refusal → Type 0
+HeadTaken n taken =
+    MatchResult taken (λ h. (h ≡ head_from n) × (refusal_of (head_rows (head_from n)) ≡ 0))
+    (λ refusal. number refusal ≡ refusal_of (head_rows (head_from n)))
 
 -- "State exactly" 10 (2026-08) "+ 32 × leads bytes? (5)" `room` is the state's length.
 unfoldable pub setup_rows : Head → ℕ → List Asked

@@ -19,20 +19,21 @@ pub const HEAD_SIZE: usize = Head::SIZE;
 // The power limit, which stands before the leads' inputs (document 01: allowance).
 pub const LIMIT_SIZE: usize = 4;
 
+// Kept: a function for each of the three. A generic one takes the two numbers that are all of its body.
 pub fn state_length(leads: u8) -> usize
     ensures { result ≡ state_length leads }
 {
-    Head::SIZE + StateRecord::SIZE * (leads as usize)
+    Head::SIZE + StateRecord::SIZE * usize::from(leads)
 }
 
 pub fn input_length(leads: u8) -> usize
     ensures { result ≡ input_length leads }
 {
-    LIMIT_SIZE + InputRecord::SIZE * (leads as usize)
+    LIMIT_SIZE + InputRecord::SIZE * usize::from(leads)
 }
 
 pub fn output_length(leads: u8) -> usize
     ensures { result ≡ output_length leads }
 {
-    OutputRecord::SIZE * (leads as usize)
+    OutputRecord::SIZE * usize::from(leads)
 }

@@ -15,16 +15,16 @@ ghost use Rattle.std.specs.Prelude.{◌≡◌};
 ghost use Rattle.post.specs.Heads.{head_from};
 ghost use Rattle.post.specs.Calls.{SetUp, setup_of, Ticked, tick_of};
 
-use fresh::write_fresh;
-use head::Head;
+use common::answered;
+use fresh::try_setup;
 pub use lengths::{
     HEAD_SIZE, LIMIT_SIZE, MOST_LEADS, MOST_OUTPUT, MOST_STATE, input_length, output_length,
     state_length,
 };
-use names::Refusal;
-use refusals::{setup_refusal, tick_refusal};
 use setup_numbers::{SetupErrors, SetupNumbers};
-use ticks::carry_out;
+use ticks::try_tick;
+
+// Kept: numbers, and slices of any length, as C calls these two functions (`post_c`).
 
 // Writes a fresh state. The resistance is the cable's, as its float's bits; the errors are the meters', in tenths. Returns 0, or the
 // number of the first question that gets a no, and then nothing has changed.
@@ -57,12 +57,7 @@ pub fn setup(
             amperes: amperes_error,
         },
     };
-    let room = state.len();
-    let refusal = setup_refusal(numbers, room);
-    if refusal == Refusal::NONE {
-        write_fresh(Head::from_numbers(numbers), state);
-    }
-    refusal
+    answered(try_setup(numbers, state))
 }
 
 // Carries a tick out: every lead's state and output are written. Returns 0, or the number of the first question that gets a no, and then
@@ -71,10 +66,5 @@ pub fn tick(state: &mut [u8], input: &[u8], output: &mut [u8]) -> u32
     ensures { ◌≡◌ {A = Ticked} (record { number = result; state = state.new; output = output.new })
         (tick_of state.old input.now output.old) }
 {
-    let room = output.len();
-    let refusal = tick_refusal(state, input, room);
-    if refusal == Refusal::NONE {
-        carry_out(state, input, output);
-    }
-    refusal
+    answered(try_tick(state, input, output))
 }

@@ -1,29 +1,31 @@
-// The numbers that the two calls return: 0, or that of the first question that gets a no.
-#[derive(Clone, Copy)]
-pub struct Refusal;
+// Why setup or tick is refused. The host gets the number.
+ghost use Rattle.std.proofs.Common.{rules};
+ghost use Rattle.post.specs.Refusals.{number};
 
-impl Refusal {
-    pub const NONE: u32 = 0;
+use common::Numbered;
 
+#[derive(Clone, Copy, Debug, PartialEq, Eq)]
+pub enum Refusal {
     // Setup's, in the order of asking.
-    pub const LEADS: u32 = 1;
-
-    pub const RATED_VOLTS: u32 = 2;
-
-    pub const RATED_AMPERES: u32 = 3;
-
-    pub const CABLE_RESISTANCE: u32 = 4;
-
-    pub const METER_ERROR: u32 = 32;
-
-    pub const STATE_LENGTH: u32 = 5;
-
+    Leads = 1,
+    RatedVolts = 2,
+    RatedAmperes = 3,
+    CableResistance = 4,
+    MeterError = 32,
+    StateLength = 5,
     // Tick's.
-    pub const STATE: u32 = 6;
+    State = 6,
+    InputLength = 7,
+    OutputLength = 8,
+    Input = 9,
+}
 
-    pub const INPUT_LENGTH: u32 = 7;
+impl Numbered for Refusal {
+    ghost number = { number };
 
-    pub const OUTPUT_LENGTH: u32 = 8;
+    fn number(self) -> u32 {
+        self as u32
+    }
 
-    pub const INPUT: u32 = 9;
+    ghost never_0 = { Prim.search rules };
 }

@@ -1,47 +1,28 @@
-// What setup and tick ask before they do anything. Each answers with the number of the first no, 0 where there is none.
+// What setup and tick ask before they do anything, in the order of asking.
 ghost use Rattle.std.specs.Prelude.{◌≡◌, length};
 ghost use Rattle.common.specs.Parts.{every};
-ghost use Rattle.common.specs.Refusals.{refusal_of};
+ghost use Rattle.common.specs.Refusals.{number_of, refusal_of};
 ghost use Rattle.lead_records.specs.States.{good_state};
 ghost use Rattle.lead_records.specs.Inputs.{good_input};
-ghost use Rattle.post.specs.Heads.{state_length, input_length, head_from, state_part, input_part};
-ghost use Rattle.post.specs.Refusals.{setup_rows, good_post, input_rows, tick_rows};
+ghost use Rattle.post.specs.Heads.{state_length, input_length, state_part, input_part};
+ghost use Rattle.post.specs.Refusals.{number, good_post, input_rows, tick_rows};
 
-use super::head::{Head, head_refusal};
+use super::head::Head;
 use super::lengths::{LIMIT_SIZE, input_length, output_length, state_length};
 use super::names::Refusal;
 use common::unless;
 use lead_records::{InputRecord, StateRecord};
-use setup_numbers::SetupNumbers;
 
-// The room is the state's length.
-pub(crate) fn setup_refusal(numbers: SetupNumbers, room: usize) -> u32
-    ensures { result ≡ refusal_of (setup_rows (head_from numbers) room) }
-{
-    let refusal = head_refusal(numbers);
-    if refusal != Refusal::NONE {
-        return refusal;
-    }
-    unless(
-        room == state_length(numbers.leads as u8),
-        Refusal::STATE_LENGTH,
-    )
-}
-
+// Kept: that a state or an input is as long as its leads ask stands in the contracts of those that take it, here and in the modules beside.
+// A type for it would borrow the state throughout a tick, which reads it first and writes it at the end.
 fn are_good_states(head: Head, state: &[u8]) -> bool
     requires { length state.now ≡ state_length head.leads }
     ensures { result ≡ every head.leads (λ k. good_state head.ratings (state_part state.now k)) }
 {
-    let leads = head.leads as usize;
-    let mut i = 0;
-    while i < leads {
-        let at = Head::SIZE + StateRecord::SIZE * i;
-        if !StateRecord::is_good(&state[at..at + StateRecord::SIZE], head.ratings) {
-            return false;
-        }
-        i += 1;
-    }
-    true
+    let (records, _) = state[Head::SIZE..].as_chunks();
+    records
+        .iter()
+        .all(|record| StateRecord::is_good(record, head.ratings))
 }
 
 fn is_good_post(state: &[u8]) -> bool
@@ -51,50 +32,30 @@ fn is_good_post(state: &[u8]) -> bool
         return false;
     }
     let head = Head::read(state);
-    if !head.is_good() {
-        return false;
-    }
-    if state.len() != state_length(head.leads) {
-        return false;
-    }
-    are_good_states(head, state)
+    head.is_good() && state.len() == state_length(head.leads) && are_good_states(head, state)
 }
 
 fn are_good_inputs(leads: u8, input: &[u8]) -> bool
     requires { length input.now ≡ input_length leads }
     ensures { result ≡ every leads (λ k. good_input (input_part input.now k)) }
 {
-    let leads = leads as usize;
-    let mut i = 0;
-    while i < leads {
-        let at = LIMIT_SIZE + InputRecord::SIZE * i;
-        if !InputRecord::is_good(&input[at..at + InputRecord::SIZE]) {
-            return false;
-        }
-        i += 1;
-    }
-    true
+    let (records, _) = input[LIMIT_SIZE..].as_chunks();
+    records.iter().all(|record| InputRecord::is_good(record))
 }
 
 // The room is the output's length.
-fn input_refusal(leads: u8, input: &[u8], room: usize) -> u32
-    ensures { result ≡ refusal_of (input_rows leads input.now room) }
+fn ask_input(leads: u8, input: &[u8], room: usize) -> Result<(), Refusal>
+    ensures { number_of number result ≡ refusal_of (input_rows leads input.now room) }
 {
-    if input.len() != input_length(leads) {
-        return Refusal::INPUT_LENGTH;
-    }
-    if room != output_length(leads) {
-        return Refusal::OUTPUT_LENGTH;
-    }
-    unless(are_good_inputs(leads, input), Refusal::INPUT)
+    unless(input.len() == input_length(leads), Refusal::InputLength)?;
+    unless(room == output_length(leads), Refusal::OutputLength)?;
+    unless(are_good_inputs(leads, input), Refusal::Input)
 }
 
-pub(crate) fn tick_refusal(state: &[u8], input: &[u8], room: usize) -> u32
-    ensures { result ≡ refusal_of (tick_rows state.now input.now room) }
+pub(crate) fn ask_tick(state: &[u8], input: &[u8], room: usize) -> Result<(), Refusal>
+    ensures { number_of number result ≡ refusal_of (tick_rows state.now input.now room) }
 {
-    if !is_good_post(state) {
-        return Refusal::STATE;
-    }
+    unless(is_good_post(state), Refusal::State)?;
     let head = Head::read(state);
-    input_refusal(head.leads, input, room)
+    ask_input(head.leads, input, room)
 }

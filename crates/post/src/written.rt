@@ -4,11 +4,10 @@ ghost use Rattle.common.specs.Parts.{joined};
 ghost use Rattle.sharing.specs.Level.{places};
 ghost use Rattle.lead_records.specs.States.{encode};
 ghost use Rattle.post.specs.Heads.{head_size, state_length, output_length};
-ghost use Rattle.post.specs.Turns.{empty_turn, commanded_turn, turn_shown};
+ghost use Rattle.lead_records.specs.Turns.{empty_turn, commanded_turn, turn_shown};
 
 use super::head::Head;
-use super::turns::Turn;
-use lead_records::{OutputRecord, StateRecord};
+use lead_records::{OutputRecord, StateRecord, Turn};
 use sharing::PLACES;
 
 // The turns' leads with their commands at the level: each one's records of state and output. The output shows
@@ -26,23 +25,19 @@ pub(crate) fn write_leads(
     ensures output_after { output.new
         ≡ joined head.leads (λ k. turn_shown head.ratings level (commanded_turn head.ratings level (get_or turns k empty_turn))) }
 {
-    let leads = head.leads as usize;
-    let mut i = 0;
-    while i < leads {
+    let leads = usize::from(head.leads);
+    // Kept: the places from the number. Of what `chunks_exact_mut` lent, a proof knows afterwards the length and no byte.
+    for i in 0..leads {
         let at = Head::SIZE + StateRecord::SIZE * i;
         let to = OutputRecord::SIZE * i;
         let turn = turns[i].command(head.ratings, level);
-        let reading = turn.reading;
         let kept = StateRecord::bytes(turn.lead);
         state[at..at + StateRecord::SIZE].copy_from_slice(&kept);
         OutputRecord::write(
             head.ratings,
             level,
-            turn.lock,
-            reading,
-            turn.lead,
+            turn,
             &mut output[to..to + OutputRecord::SIZE],
         );
-        i += 1;
     }
 }

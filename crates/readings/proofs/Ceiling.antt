@@ -6,6 +6,8 @@ use native.Mathlib.Nat.{le_trans, le_of_eq, le_antisymm, lt_of_not-le, not-le_of
 use native.Mathlib.Omega.{arith}
 use borrow.Author.Tests.{leb-true, leb-false, le-leb, lt-leb}
 use lib.Dec.{leb}
+use Rattle.std.specs.Int.{div_ceil}
+use Rattle.std.proofs.lemmas.Grind.{div_ceil_times}
 use Rattle.readings.specs.Value.{ceiling}
 
 pub not_below : (a c : ℕ) → 0 < c → a ≤ ceiling a c * c
@@ -34,6 +36,12 @@ one a c h k = div-eq_of_lt-le c (omega arith) (omega arith)
 
 pub zero_of : (c : ℕ) → 0 < c → ceiling 0 c ≡ 0
 zero_of c h = div-eq_of_lt (omega arith)
+
+-- the library's own words for it
+pub by_parts : (a c : ℕ) → 0 < c → div_ceil a c ≡ ceiling a c
+by_parts a c h =
+    let between = div_ceil_times a c h in
+    sym (div-eq_of_lt-le c (omega (arith, between.1)) (omega (arith, between.0)))
 
 -- rounded up in parts, k to a unit, and then to whole units: the same as rounded up to whole units at once
 pub nested : (k a c : ℕ) → 0 < k → 0 < c → ceiling (ceiling (k * a) c) k ≡ ceiling a c

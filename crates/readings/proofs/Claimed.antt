@@ -12,7 +12,9 @@ use Rattle.readings.specs.Readings.{reading_of, in_range, connector_volts, in_te
 use Rattle.readings.specs.Claims.{IsLeast, OfEachGood, LeastTenth, LeastWhole, WholeLimits, ExactEnds, EachAtMost, worked_floats, worked_readings}
 use Rattle.readings.specs.declared.Measurement.{Measurement}
 use Rattle.readings.specs.declared.Tenths.{Tenths}
-use Rattle.readings.specs.declared.Judged.TheVariants.{Good, Bad}
+use Rattle.readings.specs.declared.Measured.{Measured}
+use Rattle.std.specs.Prelude.{Some, None}
+use Rattle.std.proofs.lemmas.Option.{none-some, same_Some}
 use Rattle.readings.proofs.Ceiling as ceilings
 use Rattle.readings.proofs.Least.{is_least_tenth, is_least_whole}
 use Rattle.readings.proofs.Connector.{values_within}
@@ -29,13 +31,18 @@ of_each_good Said each volts amperes resistance v a allowed = go (in_range m) re
     m : Measurement
     m = record { volts = volts; amperes = amperes; resistance = of_bits binary32 resistance }
 
-    go : (b : Bool) → in_range m ≡ b → cond b (in_tenths m) Bad ≡ Good v a → Said (connector_volts m) v × Said amperes a
+    go :
+        (b : Bool)
+        → in_range m ≡ b
+        → cond b (Some (in_tenths m)) None ≡ Some (record { volts = v; amperes = a })
+        → Said (connector_volts m) v × Said amperes a
     go true r e =
         let within = values_within m r allowed in
-        let volts-are : tenths (least (connector_volts m)) ≡ v = cc in
-        let amperes-are : tenths (least amperes) ≡ a = cc in
-        (subst (Said (connector_volts m)) volts-are (each (connector_volts m) within.0), subst (Said amperes) amperes-are (each amperes within.1))
-    go false r e = absurd (let z : ◌≡◌ {A = ℕ} 0 1 = cc in omega arith)
+        let is = same_Some _ _ e in (
+          subst (Said (connector_volts m)) (ap (λ (t : Measured). t.volts) is) (each (connector_volts m) within.0),
+          subst (Said amperes) (ap (λ (t : Measured). t.amperes) is) (each amperes within.1),
+        )
+    go false r e = absurd (none-some _ e)
 
 pub least_tenth : LeastTenth
 least_tenth = of_each_good _ is_least_tenth
@@ -80,7 +87,7 @@ worked_whole = refl
 -- the readings worked out are good, with cable resistances that are allowed
 pub worked_readings_lem :
     map (λ case. judged_of (reading_of true case.volts) (reading_of true case.amperes) case.resistance) worked_readings
-    ≡ map (λ case. Good (tenths case.connector_tenths) (tenths case.ampere_tenths)) worked_readings
+    ≡ map (λ case. Some (record { volts = tenths case.connector_tenths; amperes = tenths case.ampere_tenths })) worked_readings
 unfolding in_range connector_volts in_tenths least of_bits of_int le lt eq mul sub
 worked_readings_lem = refl
 

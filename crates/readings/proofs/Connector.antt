@@ -11,6 +11,7 @@ use lib.Ieee.{Float, nan, inf, fin, up, down, binary32, unlike, le, lt, eq, of_i
 use lib.Ieee.Fits.{and_i, and_l, and_r, eq→eqb, down_pos, round_is}
 use lib.Ieee.Order.{round_mono, le_of_values}
 use lib.Ieee.Scale.{round_same}
+use Rattle.std.proofs.lemmas.Bool.{false≢true}
 use Rattle.readings.specs.Value.{number, within}
 use Rattle.readings.specs.Readings.{in_range, connector_volts}
 use Rattle.readings.specs.declared.Measurement.{Measurement}
@@ -69,13 +70,10 @@ NonNegative nan = ⊥
 NonNegative (inf s) = s ≡ false
 NonNegative (fin s m e) = s ≡ true → m * up e ≡ 0
 
-no_sign : {A : Type 0} → ◌≡◌ {A = Bool} false true → A
-no_sign e = absurd (subst T (sym e) tt)
-
 nonnegative_odd : (q k : ℕ) → NonNegative (odd 25 false q k 149)
 unfolding odd
-nonnegative_odd zero k = no_sign
-nonnegative_odd (suc q) k = no_sign
+nonnegative_odd zero k = λ e. absurd (false≢true e)
+nonnegative_odd (suc q) k = λ e. absurd (false≢true e)
 
 nonnegative_units : (q k : ℕ) → NonNegative (units binary32 false q k)
 unfolding units
@@ -101,7 +99,7 @@ nonnegative_mul (fin s m e) (fin r n d) t u =
     zero-if : (s r : Bool) → T (within 1000 (fin s m e)) → T (within 1000 (fin r n d)) → unlike s r ≡ true → m * up e * (n * up d) ≡ 0
     zero-if true r t u z = ap (λ (k : ℕ). k * (n * up d)) (minus_zero_lem m e (lower 1000 (fin true m e) t)) ∙ zero-mul (n * up d)
     zero-if false true t u z = ap (λ (k : ℕ). m * up e * k) (minus_zero_lem n d (lower 1000 (fin true n d) u)) ∙ mul-zero (m * up e)
-    zero-if false false t u z = no_sign z
+    zero-if false false t u z = absurd (false≢true z)
 
 -- ---- the volts at the connector
 
@@ -110,7 +108,7 @@ unfolding sub add neg is_nan le lt of_int
 sub_capped nan p t f = absurd (no_nan nan t)
 sub_capped (inf s) p t f = absurd (no_inf s t)
 sub_capped (fin s m e) nan t f = absurd f
-sub_capped (fin s m e) (inf true) t f = no_sign (sym f)
+sub_capped (fin s m e) (inf true) t f = absurd (false≢true (sym f))
 sub_capped (fin s m e) (inf false) t f = tt
 sub_capped (fin s m e) (fin r n d) t f =
     sum_capped s (not r) (m * up e * down d) (n * up d * down e) (down e * down d) (mul-pos (down_pos e) (down_pos d))
@@ -120,7 +118,7 @@ sub_capped (fin s m e) (fin r n d) t f =
 from_zero : (d : Float) → T (le d (number 1000)) → lt d (number 0) ≡ false → T (le (number 0) d)
 unfolding le lt eq of_int
 from_zero nan u l = absurd u
-from_zero (inf true) u l = no_sign (sym l)
+from_zero (inf true) u l = absurd (false≢true (sym l))
 from_zero (inf false) u l = tt
 from_zero (fin true m e) u l =
     let h : m * up e * 1 + 0 * down e ≤ 0 = ltb-false 0 (m * up e * 1 + 0 * down e) l in

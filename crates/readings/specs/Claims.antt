@@ -1,12 +1,10 @@
 -- Requests 2026-04 and 2026-08: what they say of readings, and some floats and readings worked out. Definitions only.
-use Rattle.std.specs.Prelude.{true, List, [], ◌∷◌, ◌≡◌, ℕ, ◌≤◌, T, leb, Float}
+use Rattle.std.specs.Prelude.{true, List, [], ◌∷◌, ◌≡◌, ℕ, ◌≤◌, T, leb, Some, Float}
 use Rattle.std.specs.Float.{binary32}
 use Rattle.std.specs.Float.Ieee.{of_bits}
 use Rattle.readings.specs.Value.{NotBelow}
 use Rattle.readings.specs.Readings.{connector_volts, judged_of, allowed_resistance, of_units, ValueRange, lower_end, upper_end, exactly, at_most, whole_units}
-use Rattle.readings.specs.declared.Reading.TheVariants.{Value}
 use Rattle.readings.specs.declared.Tenths.{Tenths}
-use Rattle.readings.specs.declared.Judged.TheVariants.{Good}
 
 -- n is the least number of parts not below the value of a float, where a unit has so many parts: it is not below, and nothing smaller is
 pub record IsLeast (parts : ℕ) (x : Float) (n : ℕ) : Type 0 where
@@ -23,7 +21,7 @@ abbrev pub OfEachGood : (Float → Tenths → Type 0) → Type 0
 OfEachGood Said =
     (volts amperes : Float) (resistance : ℕ) (v a : Tenths)
     → allowed_resistance resistance ≡ true
-    → judged_of (Value volts) (Value amperes) resistance ≡ Good v a
+    → judged_of (Some volts) (Some amperes) resistance ≡ Some (record { volts = v; amperes = a })
     → Said (connector_of volts amperes resistance) v × Said amperes a
 
 -- "Readings now become the least whole tenth not below the exact value of the float."

@@ -1,21 +1,18 @@
 -- Document 01, 'Readings', as requests 2026-04 and 2026-08 amend it, and question 27. Definitions only.
-use Rattle.std.specs.Prelude.{Bool, true, false, cond, ◌&&◌, ℕ, ◌+◌, ◌-◌, ◌*◌, leb, Float}
+use Rattle.std.specs.Prelude.{Bool, true, false, cond, ◌&&◌, ℕ, ◌+◌, ◌-◌, ◌*◌, leb, Option, Some, None, Float}
 use Rattle.std.specs.Float.{binary32}
 use Rattle.std.specs.Float.Ieee.{le, lt, mul, sub, of_bits}
 use Rattle.readings.specs.Value.{number, within, ceiling, tenths_per_unit, least}
-use Rattle.readings.specs.declared.Reading.{Reading}
-use Rattle.readings.specs.declared.Reading.TheVariants.{Value, Missing}
 use Rattle.readings.specs.declared.Measurement.{Measurement}
 use Rattle.readings.specs.declared.Tenths.{Tenths}
 use Rattle.readings.specs.declared.MeterErrors.{MeterErrors}
 use Rattle.readings.specs.declared.UpperEnd.{UpperEnd}
-use Rattle.readings.specs.declared.Judged.{Judged}
-use Rattle.readings.specs.declared.Judged.TheVariants.{Good, Bad}
+use Rattle.readings.specs.declared.Measured.{Measured}
 
--- "A reading is a value or missing": present bit 1 and the float that the bits stand for, or present bit 0
-abbrev pub reading_of : Bool → ℕ → Reading
-reading_of true bits = Value (of_bits binary32 bits)
-reading_of false bits = Missing
+-- "A reading is a value or missing": present bit 1 and the float that the bits stand for, or present bit 0, which is None
+abbrev pub reading_of : Bool → ℕ → Option Float
+reading_of true bits = Some (of_bits binary32 bits)
+reading_of false bits = None
 
 -- "0 ≤ volts ≤ 1000 and 0 ≤ amperes ≤ 400; a NaN isn't good, minus zero is zero"
 unfoldable pub in_range : Measurement → Bool
@@ -33,17 +30,17 @@ tenths n = record { 0 = n }
 
 -- 2026-04: "Readings now become the least whole tenth not below the exact value of the float": connector volts as they are after both
 -- roundings, amperes as given
-unfoldable pub in_tenths : Measurement → Judged
-in_tenths m = Good (tenths (least (connector_volts m))) (tenths (least m.amperes))
+unfoldable pub in_tenths : Measurement → Measured
+in_tenths m = record { volts = tenths (least (connector_volts m)); amperes = tenths (least m.amperes) }
 
-abbrev pub judged_measurement : Measurement → Judged
-judged_measurement m = cond (in_range m) (in_tenths m) Bad
+abbrev pub judged_measurement : Measurement → Option Measured
+judged_measurement m = cond (in_range m) (Some (in_tenths m)) None
 
--- "It is good if both are present" and in range. The cable resistance is given by its float's bits.
-abbrev pub judged_of : Reading → Reading → ℕ → Judged
-judged_of (Value volts) (Value amperes) bits = judged_measurement (record { volts = volts; amperes = amperes; resistance = of_bits binary32 bits })
-judged_of (Value volts) Missing bits = Bad
-judged_of Missing amperes bits = Bad
+-- "It is good if both are present" and in range; None is a bad reading. The cable resistance is given by its float's bits.
+abbrev pub judged_of : Option Float → Option Float → ℕ → Option Measured
+judged_of (Some volts) (Some amperes) bits = judged_measurement (record { volts = volts; amperes = amperes; resistance = of_bits binary32 bits })
+judged_of (Some volts) None bits = None
+judged_of None amperes bits = None
 
 -- whole volts or amperes in tenths
 abbrev pub of_units : ℕ → Tenths
@@ -77,9 +74,9 @@ abbrev pub whole_units : Tenths → ℕ
 whole_units judged = ceiling judged.0 tenths_per_unit
 
 -- question 27: "Resistance, if given, at least 100 ohms × threshold? … A NaN is a no, plus infinity a yes."
-abbrev pub insulated : ℕ → Reading → Bool
-insulated threshold (Value ohms) = le (number (100 * threshold)) ohms
-insulated threshold Missing = true
+abbrev pub insulated : ℕ → Option Float → Bool
+insulated threshold (Some ohms) = le (number (100 * threshold)) ohms
+insulated threshold None = true
 
 -- setup's question 4: "Resistance 0 to 1, so no NaN?"
 unfoldable pub allowed_resistance : ℕ → Bool

@@ -1,6 +1,6 @@
-// The meter board's readings: document 01, 'Readings', as requests 2026-04 and 2026-08 amend it, and question 27. Rests on little_endian and
-// common.
-// Floats end here: the layers above see tenths, and hold a float only inside a Reading.
+// The meter board's readings: document 01, 'Readings', as requests 2026-04 and 2026-08 amend it, and question 27.
+// Rests on little_endian and common.
+// Floats end here: the layers above see tenths, and hold a float only as a reading that they hand back.
 #![tactic(auto)]
 
 mod floats;
@@ -11,13 +11,6 @@ ghost use Rattle.readings.specs.Value.{within};
 ghost use Rattle.readings.specs.Readings.{reading_of, connector_volts, in_range, in_tenths, judged_measurement, judged_of, of_units, at_most, upper_end, whole_units, insulated, allowed_resistance};
 
 use floats::{float_of, is_within, least_tenth};
-
-// One value of the meter board.
-#[derive(Clone, Copy)]
-pub enum Reading {
-    Value(f32),
-    Missing,
-}
 
 // What the correction takes: the resistance is the cable's.
 #[derive(Clone, Copy)]
@@ -31,11 +24,11 @@ struct Measurement {
 #[derive(Clone, Copy)]
 pub struct Tenths(pub u16);
 
-// A good reading has the volts at the connector and the amperes.
+// A good reading: the volts at the connector and the amperes.
 #[derive(Clone, Copy)]
-pub enum Judged {
-    Good { volts: Tenths, amperes: Tenths },
-    Bad,
+pub struct Measured {
+    pub volts: Tenths,
+    pub amperes: Tenths,
 }
 
 // How far off each meter may be, in tenths (2026-08).
@@ -49,17 +42,15 @@ pub struct MeterErrors {
 #[derive(Clone, Copy)]
 pub struct UpperEnd(pub u32);
 
-impl Reading {
-    // From the float's four bytes, where the input's present bit is set.
-    pub fn from_bytes(bytes: &[u8], present: bool) -> Reading
-        requires { length bytes.now ≡ 4 }
-        ensures { result ≡ reading_of present (u32_at bytes.now 0) }
-    {
-        if present {
-            Reading::Value(float_of(little_endian::u32_at(bytes, 0)))
-        } else {
-            Reading::Missing
-        }
+// One value of the meter board, from the float's four bytes: `None` is a missing reading, whose present bit is clear in the input.
+pub fn reading_from(bytes: &[u8], present: bool) -> Option<f32>
+    requires { length bytes.now ≡ 4 }
+    ensures { result ≡ reading_of present (u32_at bytes.now 0) }
+{
+    if present {
+        Some(float_of(little_endian::u32_at(bytes, 0)))
+    } else {
+        None
     }
 }
 
@@ -71,15 +62,14 @@ impl Tenths {
     pub fn upper_end(self, error: u8) -> UpperEnd
         ensures { result ≡ upper_end (record { tenths = self; error = error }) }
     {
-        UpperEnd((self.0 as u32) + (error as u32))
+        UpperEnd(u32::from(self.0) + u32::from(error))
     }
 
     // Whole volts or amperes, rounded up.
     pub fn whole_units(self) -> u16
         ensures { result ≡ whole_units self }
     {
-        let per_unit = Tenths::PER_UNIT as u32;
-        (((self.0 as u32) + (per_unit - 1)) / per_unit) as u16
+        self.0.div_ceil(Tenths::PER_UNIT)
     }
 }
 
@@ -88,14 +78,15 @@ impl UpperEnd {
     pub fn is_at_most(self, most: Tenths) -> bool
         ensures { result ≡ at_most self most }
     {
-        self.0 <= (most.0 as u32)
+        // Kept: an upper end and tenths are two types, which no derived order compares.
+        self.0 <= u32::from(most.0)
     }
 
     // The limit is in whole volts or amperes. In tenths it may not fit two bytes.
     pub fn is_at_most_units(self, units: u16) -> bool
         ensures { result ≡ at_most self (of_units units) }
     {
-        self.0 <= (Tenths::PER_UNIT as u32) * (units as u32)
+        self.0 <= u32::from(Tenths::PER_UNIT) * u32::from(units)
     }
 }
 
@@ -105,6 +96,7 @@ impl Measurement {
     {
         let drop = self.resistance * self.amperes;
         let volts = self.volts - drop;
+        // Kept: of 0 and minus zero `f32::max` may give either, and the rule `connector_volts` says which.
         if volts < 0.0 { 0.0 } else { volts }
     }
 
@@ -114,55 +106,47 @@ impl Measurement {
         is_within(self.volts, 1000) & is_within(self.amperes, 400)
     }
 
-    fn in_tenths(self) -> Judged
+    fn in_tenths(self) -> Measured
         requires { (in_range self ≡ true) × (within 1 self.resistance ≡ true) }
         ensures { result ≡ in_tenths self }
     {
-        Judged::Good {
+        Measured {
             volts: least_tenth(self.connector_volts()),
             amperes: least_tenth(self.amperes),
         }
     }
 
-    fn judged(self) -> Judged
+    fn judged(self) -> Option<Measured>
         requires { within 1 self.resistance ≡ true }
         ensures { result ≡ judged_measurement self }
     {
         if self.is_in_range() {
-            self.in_tenths()
+            Some(self.in_tenths())
         } else {
-            Judged::Bad
+            None
         }
     }
 }
 
-// The resistance is the cable's, as the float's bits that setup is given and the state keeps.
-pub fn judge(volts: Reading, amperes: Reading, resistance: u32) -> Judged
+// `None` is a bad reading. The resistance is the cable's, as the float's bits that setup is given and the state keeps.
+pub fn judge(volts: Option<f32>, amperes: Option<f32>, resistance: u32) -> Option<Measured>
     requires { allowed_resistance resistance ≡ true }
     ensures { result ≡ judged_of volts amperes resistance }
 {
-    let Reading::Value(v) = volts else {
-        return Judged::Bad;
-    };
-    let Reading::Value(a) = amperes else {
-        return Judged::Bad;
-    };
     let m = Measurement {
-        volts: v,
-        amperes: a,
+        volts: volts?,
+        amperes: amperes?,
         resistance: float_of(resistance),
     };
     m.judged()
 }
 
 // Question 27, of the insulation resistance in ohms.
-pub fn is_insulated(threshold: u16, insulation: Reading) -> bool
+pub fn is_insulated(threshold: u16, insulation: Option<f32>) -> bool
     ensures { result ≡ insulated threshold insulation }
 {
-    match insulation {
-        Reading::Value(ohms) => ((100 * (threshold as u32)) as f32) <= ohms,
-        Reading::Missing => true,
-    }
+    let least = (100 * u32::from(threshold)) as f32;
+    insulation.is_none_or(|ohms| least <= ohms)
 }
 
 // Setup's question 4, asked of the float's bits.

@@ -1,8 +1,10 @@
 -- Document 02, 2026-02: the host's calls, the number that each returns, and every byte that it leaves. Definitions only.
-use Rattle.std.specs.Prelude.{List, [], ◌∷◌, ℕ, eqb, leb, length}
-use Rattle.common.specs.Refusals.{Asked, asks, refusal_of, done_unless}
+use Rattle.std.specs.Prelude.{List, [], ◌∷◌, ℕ, eqb, leb, length, Result, ⊤}
+use Rattle.common.specs.Refusals.{Asked, asks, refusal_of, done_unless, number_of}
 use Rattle.little_endian.specs.Flags.{bit_value}
 use Rattle.receiver.specs.Registers.{frame_size, last_register, receiver_size}
+use Rattle.receiver.specs.declared.refusals.Refusal.{Refusal}
+use Rattle.receiver.specs.declared.refusals.Refusal.TheVariants.{Receiver, Frame, Room, Register}
 use Rattle.receiver.specs.Chip.{powered_up, value_read, arrived, written, drained, drained_frame, is_up}
 
 -- a call, with what it is given beside the receiver: any numbers, any bytes, any lengths
@@ -27,6 +29,17 @@ is_frame frame = asks (eqb (length frame) frame_size) 7
 
 abbrev pub has_room : ℕ → List ℕ → Asked
 has_room size lent = asks (eqb (length lent) size) 8
+
+-- the numbers of the refusals
+abbrev pub number : Refusal → ℕ
+number Receiver = 6
+number Frame = 7
+number Room = 8
+number Register = 30
+
+-- the number that the host is told: 0 where nothing is refused
+abbrev pub told : Result ⊤ Refusal → ℕ
+told = number_of number
 
 -- what a call asks before it does anything, in the order of asking
 unfoldable pub rows : List ℕ → Call → List Asked

@@ -1,60 +1,52 @@
 // What the chip does at each call, on a receiver of 93 bytes.
-ghost use Rattle.std.specs.Prelude.{◌≡◌, ◌+◌, ◌≤◌, length, take, drop};
-ghost use Rattle.little_endian.specs.Flags.{bit_value};
-ghost use Rattle.receiver.specs.Registers.{last_register, receiver_size, frame_size};
+#![tactic(auto, using(std::proofs::lemmas::Bool::Decides::nat_tests), unfolding(crate::specs::All::chip_rules))]
+
+ghost use Rattle.std.specs.Prelude.{◌≡◌, ◌≤◌, length};
+ghost use Rattle.receiver.specs.Registers.{last_register, frame_size};
 ghost use Rattle.receiver.specs.Chip.{powered_up, value_read, arrived, written, drained, drained_frame, is_up};
 
-use super::places::{FRAME_SIZE, MAILBOX_COUNT, RECEIVER_SIZE, Register, TURN};
+use super::places::{FRAME_SIZE, Frame, MAILBOX_COUNT, RECEIVER_SIZE, Receiver, Register, TURN};
 use super::status::{is_full, longest_held, with_full, without, without_one};
 
-pub(crate) fn power_up(receiver: &mut [u8])
-    requires { length receiver.old ≡ receiver_size }
+pub(crate) fn power_up(receiver: &mut Receiver)
     ensures { receiver.new ≡ powered_up }
 {
-    receiver.copy_from_slice(&[0; RECEIVER_SIZE]);
+    *receiver = [0; RECEIVER_SIZE];
 }
 
-pub(crate) fn value_read(receiver: &[u8], number: u32) -> u8
-    requires { (length receiver.now ≡ receiver_size) × (number ≤ last_register) }
+pub(crate) fn value_read(receiver: &Receiver, number: u32) -> u8
+    requires { number ≤ last_register }
     ensures { result ≡ value_read receiver.now number }
 {
-    let at = number as usize;
-    if at == Register::ACKNOWLEDGE {
-        return 0;
+    match number as usize {
+        Register::ACKNOWLEDGE => 0,
+        at => receiver[at],
     }
-    receiver[at]
 }
 
-pub(crate) fn write(receiver: &mut [u8], number: u32, value: u8)
-    requires { length receiver.old ≡ receiver_size }
+pub(crate) fn write(receiver: &mut Receiver, number: u32, value: u8)
     ensures { receiver.new ≡ written receiver.old number value }
 {
-    let at = number as usize;
-    if at == Register::ACKNOWLEDGE {
-        receiver[Register::STATUS] = without(receiver[Register::STATUS], value);
-        return;
-    }
-    if at == Register::MASK {
-        receiver[Register::MASK] = value;
-        return;
-    }
-    if at == Register::OVERRUN {
-        receiver[Register::OVERRUN] = 0;
+    match number as usize {
+        Register::ACKNOWLEDGE => {
+            receiver[Register::STATUS] = without(receiver[Register::STATUS], value);
+        }
+        Register::MASK => receiver[Register::MASK] = value,
+        Register::OVERRUN => receiver[Register::OVERRUN] = 0,
+        _ => {}
     }
 }
 
-// A frame by value. Copied from slice to slice it would go byte by byte, as they might overlap for all that the compiler knows.
-fn frame_at(s: &[u8], at: usize) -> [u8; FRAME_SIZE]
-    requires { at + frame_size ≤ length s.now }
-    ensures { result ≡ take frame_size (drop at s.now) }
+// A frame into a mailbox, by value: from slice to slice it would go byte by byte, as they might overlap for all that the compiler knows.
+// Kept: a slice and its length. With `&mut receiver[a..b]` made an array in `arrive` itself, what the receiver ends as was not proved.
+fn put(mailbox: &mut [u8], frame: &Frame)
+    requires { length mailbox.old ≡ frame_size }
+    ensures { mailbox.new ≡ frame.now }
 {
-    let mut frame = [0; FRAME_SIZE];
-    frame.copy_from_slice(&s[at..at + FRAME_SIZE]);
-    frame
+    *mailbox.as_mut_array().unwrap() = *frame;
 }
 
-pub(crate) fn arrive(receiver: &mut [u8], frame: &[u8])
-    requires { (length receiver.old ≡ receiver_size) × (length frame.now ≡ frame_size) }
+pub(crate) fn arrive(receiver: &mut Receiver, frame: &Frame)
     ensures { receiver.new ≡ arrived receiver.old frame.now }
 {
     let status = receiver[Register::STATUS];
@@ -63,33 +55,27 @@ pub(crate) fn arrive(receiver: &mut [u8], frame: &[u8])
         receiver[Register::OVERRUN] = 1;
         return;
     }
-    let at = Register::MAILBOXES + FRAME_SIZE * (turn as usize);
-    receiver[at..at + FRAME_SIZE].copy_from_slice(&frame_at(frame, 0));
+    let at = Register::MAILBOXES + FRAME_SIZE * usize::from(turn);
+    put(&mut receiver[at..at + FRAME_SIZE], frame);
     receiver[Register::STATUS] = with_full(status, turn);
     receiver[TURN] = (turn + 1) % MAILBOX_COUNT;
 }
 
-pub(crate) fn drain(receiver: &mut [u8], frame: &mut [u8])
-    requires { (length receiver.old ≡ receiver_size) × (length frame.old ≡ frame_size) }
+pub(crate) fn drain(receiver: &mut Receiver, frame: &mut Frame)
     ensures { (receiver.new ≡ drained receiver.old)
         × (frame.new ≡ drained_frame receiver.old frame.old) }
 {
     let status = receiver[Register::STATUS];
-    let mailbox = longest_held(status, receiver[TURN] % MAILBOX_COUNT);
-    if mailbox < MAILBOX_COUNT {
-        let at = Register::MAILBOXES + FRAME_SIZE * (mailbox as usize);
-        frame.copy_from_slice(&frame_at(receiver, at));
+    if let Some(mailbox) = longest_held(status, receiver[TURN] % MAILBOX_COUNT) {
+        let at = Register::MAILBOXES + FRAME_SIZE * usize::from(mailbox);
+        *frame = receiver[at..at + FRAME_SIZE].try_into().unwrap();
         receiver[Register::STATUS] = without_one(status, mailbox);
     }
 }
 
-// The interrupt line: 1 for up.
-pub(crate) fn level(receiver: &[u8]) -> u8
-    requires { length receiver.now ≡ receiver_size }
-    ensures { result ≡ bit_value (is_up receiver.now) }
+// Whether the interrupt line is up.
+pub(crate) fn is_up(receiver: &Receiver) -> bool
+    ensures { result ≡ is_up receiver.now }
 {
-    if receiver[Register::STATUS] & receiver[Register::MASK] == 0 {
-        return 0;
-    }
-    1
+    receiver[Register::STATUS] & receiver[Register::MASK] != 0
 }

@@ -2,29 +2,26 @@
 // It knows frames as 11 bytes. Rests on the promises of `little_endian` and `common`.
 #![tactic(auto)]
 
+mod calls;
 mod chip;
-mod names;
 mod places;
+mod refusals;
 mod status;
 
 ghost use Rattle.std.specs.Prelude.{◌≡◌, []};
 ghost use Rattle.receiver.specs.Calls.{Answer, answer, power_up, read, write, arrive, drain, line};
 
-use names::Refusal;
-use places::{FRAME_SIZE, RECEIVER_SIZE, Register};
+use common::answered;
 
 // Every call returns 0, or the number of the first question that gets a no, and then nothing has changed.
+// Kept: numbers, and slices of any length, as C calls these functions (`receiver_c`).
 
 // Makes every register 0, and the first mailbox next.
 pub fn receiver_power_up(receiver: &mut [u8]) -> u32
     ensures { ◌≡◌ {A = Answer} (record { number = result; receiver = receiver.new; lent = [] })
         (answer receiver.old power_up) }
 {
-    if receiver.len() != RECEIVER_SIZE {
-        return Refusal::RECEIVER;
-    }
-    chip::power_up(receiver);
-    Refusal::NONE
+    answered(calls::power_up(receiver))
 }
 
 // Reads a register.
@@ -32,17 +29,7 @@ pub fn receiver_read(receiver: &[u8], number: u32, value: &mut [u8]) -> u32
     ensures { ◌≡◌ {A = Answer} (record { number = result; receiver = receiver.now; lent = value.new })
         (answer receiver.now (read number value.old)) }
 {
-    if Register::LAST < number {
-        return Refusal::REGISTER;
-    }
-    if receiver.len() != RECEIVER_SIZE {
-        return Refusal::RECEIVER;
-    }
-    if value.len() != 1 {
-        return Refusal::ROOM;
-    }
-    value[0] = chip::value_read(receiver, number);
-    Refusal::NONE
+    answered(calls::read(receiver, number, value))
 }
 
 // Writes a register.
@@ -50,14 +37,7 @@ pub fn receiver_write(receiver: &mut [u8], number: u32, value: u8) -> u32
     ensures { ◌≡◌ {A = Answer} (record { number = result; receiver = receiver.new; lent = [] })
         (answer receiver.old (write number value)) }
 {
-    if Register::LAST < number {
-        return Refusal::REGISTER;
-    }
-    if receiver.len() != RECEIVER_SIZE {
-        return Refusal::RECEIVER;
-    }
-    chip::write(receiver, number, value);
-    Refusal::NONE
+    answered(calls::write(receiver, number, value))
 }
 
 // A frame arrives: it fills the turn's mailbox, or is lost where that one is full.
@@ -65,14 +45,7 @@ pub fn receiver_arrive(receiver: &mut [u8], frame: &[u8]) -> u32
     ensures { ◌≡◌ {A = Answer} (record { number = result; receiver = receiver.new; lent = [] })
         (answer receiver.old (arrive frame.now)) }
 {
-    if receiver.len() != RECEIVER_SIZE {
-        return Refusal::RECEIVER;
-    }
-    if frame.len() != FRAME_SIZE {
-        return Refusal::FRAME;
-    }
-    chip::arrive(receiver, frame);
-    Refusal::NONE
+    answered(calls::arrive(receiver, frame))
 }
 
 // Hands the frame held longest on and empties its mailbox; with none held nothing changes.
@@ -80,14 +53,7 @@ pub fn receiver_drain(receiver: &mut [u8], frame: &mut [u8]) -> u32
     ensures { ◌≡◌ {A = Answer} (record { number = result; receiver = receiver.new; lent = frame.new })
         (answer receiver.old (drain frame.old)) }
 {
-    if receiver.len() != RECEIVER_SIZE {
-        return Refusal::RECEIVER;
-    }
-    if frame.len() != FRAME_SIZE {
-        return Refusal::ROOM;
-    }
-    chip::drain(receiver, frame);
-    Refusal::NONE
+    answered(calls::drain(receiver, frame))
 }
 
 // Tells the interrupt line: 1 where it is up, else 0.
@@ -95,12 +61,5 @@ pub fn receiver_line(receiver: &[u8], level: &mut [u8]) -> u32
     ensures { ◌≡◌ {A = Answer} (record { number = result; receiver = receiver.now; lent = level.new })
         (answer receiver.now (line level.old)) }
 {
-    if receiver.len() != RECEIVER_SIZE {
-        return Refusal::RECEIVER;
-    }
-    if level.len() != 1 {
-        return Refusal::ROOM;
-    }
-    level[0] = chip::level(receiver);
-    Refusal::NONE
+    answered(calls::line(receiver, level))
 }

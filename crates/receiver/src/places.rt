@@ -25,3 +25,7 @@ pub const FRAME_SIZE: usize = 11;
 pub const TURN: usize = 92;
 
 pub const RECEIVER_SIZE: usize = 93;
+
+pub type Receiver = [u8; RECEIVER_SIZE];
+
+pub type Frame = [u8; FRAME_SIZE];

@@ -1,6 +1,6 @@
 // The mailboxes' bits in the status, and the full one that is met first round the ring.
-ghost use Rattle.std.specs.Prelude.{◌≡◌, not, ◌&&◌, ◌||◌, ◌<◌, eqb};
-ghost use mathlib.Core.List.{head_d};
+// Kept: `mailbox < mailbox_count` in each contract. A type for it would repeat, to be made and moved on, what `% MAILBOX_COUNT` says at once.
+ghost use Rattle.std.specs.Prelude.{◌≡◌, not, ◌&&◌, ◌||◌, ◌<◌, eqb, slice_get, IfSome};
 ghost use Rattle.little_endian.specs.Flags.{bit_at};
 ghost use Rattle.receiver.specs.Registers.{mailbox_count, status_of, full_from};
 
@@ -33,17 +33,21 @@ pub(crate) fn without(status: u8, emptied: u8) -> u8
 }
 
 // The full mailbox that is met first from the turn's upward, round the ring: the turn's own, or the lowest of those above it, or else the
-// lowest of all. 8 where none is full. The turn's own is asked first: in a full ring the processor then goes on with it before bits are counted.
-pub(crate) fn longest_held(status: u8, turn: u8) -> u8
+// lowest of all. The turn's own is asked first: in a full ring the processor then goes on with it before bits are counted.
+pub(crate) fn longest_held(status: u8, turn: u8) -> Option<u8>
     requires { turn < mailbox_count }
-    ensures { result ≡ head_d (full_from status mailbox_count turn) mailbox_count }
+    ensures { (result ≡ slice_get (full_from status mailbox_count turn) 0)
+        × IfSome result (λ k. k < mailbox_count) }
 {
     if is_full(status, turn) {
-        return turn;
+        return Some(turn);
+    }
+    if status == 0 {
+        return None;
     }
     let from_turn = status >> turn;
     if from_turn == 0 {
-        return u8::trailing_zeros(status) as u8;
+        return Some(status.trailing_zeros() as u8);
     }
-    turn + u8::trailing_zeros(from_turn) as u8
+    Some(turn + from_turn.trailing_zeros() as u8)
 }

@@ -1,6 +1,6 @@
 -- What is held after a store, after an arrival, and after the frame held longest has gone. Assumes nothing.
 use mathlib.Core.Bool.{Bool, true, false, not, ◌&&◌, ◌||◌}
-use mathlib.Core.List.{List, [], ◌∷◌, ◌++◌, map, map-append}
+use mathlib.Core.List.{List, [], ◌∷◌, ◌++◌, map, map-append, map_congr_left}
 use mathlib.Core.Logic.{◌⊎◌, inl, inr}
 use mathlib.Core.Path.{◌≡◌, refl, ap, ◌∙◌}
 use Prim.Native.Nat.{ℕ, ◌+◌, ◌%◌, ◌≤◌, ◌<◌}
@@ -10,22 +10,19 @@ use lib.Dec.{T, T_not, eqb, ltb, ltb→lt}
 use lib.Ieee.Fits.{and_l, and_r}
 use lib.ListN.{length, set, length-set}
 use lib.Seq.{sets, length-sets, get_or-set_same, get_or-set_other}
+use Rattle.std.specs.List.{list_all}
 use Rattle.common.proofs.Bools.{holds}
 use Rattle.little_endian.specs.Numbers.{byte_at}
 use Rattle.receiver.specs.Registers.{status_register, overrun_register, first_mailbox, mailbox_count, frame_size, turn_place, receiver_size, status, overrun, mailbox_place, mailbox, turn, full, status_of, full_from, waiting, held}
 use Rattle.receiver.specs.Chip.{filled, emptied}
-use Rattle.receiver.proofs.Order.{each, is_other, filled_last, others_wait, rest_left_lem}
+use Rattle.receiver.proofs.Order.{is_other, filled_last, others_wait, rest_left_lem}
 use Rattle.receiver_claims.proofs.Stores.{part_set, part_sets, part_put, byte_before}
 
--- mailboxes with the same bytes
-pub alike : (f g : ℕ → List ℕ) → ((k : ℕ) → f k ≡ g k) → (l : List ℕ) → map f l ≡ map g l
-alike f g e [] = refl
-alike f g e (k ∷ l) = rw (e k, alike f g e l)
-
-alike_where : (f g : ℕ → List ℕ) (test : ℕ → Bool) → ((k : ℕ) → T (test k) → f k ≡ g k) → (l : List ℕ) → T (each test l) → map f l ≡ map g l
+-- mailboxes with the same bytes, of those that pass a test
+alike_where : (f g : ℕ → List ℕ) (test : ℕ → Bool) → ((k : ℕ) → T (test k) → f k ≡ g k) → (l : List ℕ) → T (list_all test l) → map f l ≡ map g l
 alike_where f g test e [] t = refl
 alike_where f g test e (k ∷ l) t =
-    rw (e k (and_l (test k) (each test l) t), alike_where f g test e l (and_r (test k) (each test l) t))
+    rw (e k (and_l (test k) (list_all test l) t), alike_where f g test e l (and_r (test k) (list_all test l) t))
 
 -- a store to one of the four registers in front of the mailboxes
 module _ (s : List ℕ) (i v : ℕ) (front : i < first_mailbox) where
@@ -39,7 +36,7 @@ module _ (s : List ℕ) (i v : ℕ) (front : i < first_mailbox) where
   unfolding waiting
   held_stays behind =
       rw (get_or-set_other s i status_register v 0 (λ e. omega arith), turn_stays)
-      (alike (mailbox (set s i v)) (mailbox s) mailbox_stays (full_from (status s) mailbox_count (turn s)))
+      (map_congr_left (λ k _. mailbox_stays k))
 
 -- a frame in the turn's mailbox
 module _ (s frame : List ℕ) (long : length s ≡ receiver_size) (sized : length frame ≡ frame_size) where
@@ -123,4 +120,4 @@ module _ (s : List ℕ) (long : length s ≡ receiver_size) (small : status s < 
         turn_stays s status_register less (omega arith),
         rest_left_lem (status s) (turn s) small (omega arith) k rest met,
       )
-      (alike (mailbox (emptied s (λ j. eqb j k))) (mailbox s) (mailbox_stays s status_register less (omega arith)) rest)
+      (map_congr_left (λ j _. mailbox_stays s status_register less (omega arith) j))

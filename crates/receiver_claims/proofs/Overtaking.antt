@@ -1,7 +1,7 @@
 -- No frame overtakes another: one call leaves frames out and does not change their order, whatever it is. Assumes nothing.
 use mathlib.Core.Bool.{Bool, true, false, cond, not, ◌&&◌}
 use mathlib.Core.List.Sublist
-use mathlib.Core.List.{List, [], ◌∷◌, ◌++◌, map, append-nil, Sublist, nil-sublist, sublist-append_left}
+use mathlib.Core.List.{List, [], ◌∷◌, ◌++◌, map, map_congr_left, append-nil, Sublist, nil-sublist, sublist-append_left}
 use mathlib.Core.Path.{◌≡◌, refl, sym, subst, ◌∙◌}
 use Prim.Native.Nat.{ℕ, zero, suc, ◌%◌, ◌<◌}
 use native.Mathlib.Omega.{arith}
@@ -16,7 +16,7 @@ use Rattle.receiver.specs.Chip.{powered_up, emptied}
 use Rattle.receiver.specs.Calls.{Call, power_up, read, write, arrive, drain, line, answer, receiver_after, lent_after, lent_to}
 use Rattle.receiver_claims.specs.Lists.{arrival, handed_on, loses_none, spares}
 use Rattle.receiver_claims.specs.Claims.{IsReceiver}
-use Rattle.receiver_claims.proofs.Held.{alike, mailbox_stays, turn_stays, held_stays, held_filled}
+use Rattle.receiver_claims.proofs.Held.{mailbox_stays, turn_stays, held_stays, held_filled}
 use Rattle.receiver_claims.proofs.Left.{answered, receives, lengths_right, written_leaves, arrived_leaves}
 use Rattle.receiver_claims.proofs.OneCall.{in_order_once}
 
@@ -71,7 +71,7 @@ module _ (s : List ℕ) (sound : IsReceiver s) where
       let byte : ℕ = status_of test in
       rw (get_or-set_same s status_register byte 0 (omega (arith, sound.long)), turn_stays s status_register byte (omega arith))
       (subst (λ (l : List (List ℕ)). Sublist l (held s))
-      (sym (alike (mailbox (emptied s which)) (mailbox s) (mailbox_stays s status_register byte (omega arith)) (full_from byte mailbox_count (turn s))))
+      (sym (map_congr_left (λ k _. mailbox_stays s status_register byte (omega arith) k)))
       (fewer_wait (mailbox s) (status s) byte
       (λ j low t. and_l (full s j) (not (which j)) (subst T (status_bit test j low) t)) mailbox_count (turn s)))
 

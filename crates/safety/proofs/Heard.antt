@@ -9,11 +9,10 @@ use native.Mathlib.Omega.{arith}
 use lib.Dec.{T, eqb, eqb→eq}
 use lib.Ieee.Fits.{and_l, and_r}
 use mir.Facts.{or_yes}
-use Rattle.frames.specs.declared.heard.StatusFrame.{StatusFrame}
-use Rattle.frames.specs.declared.heard.StatusFrame.TheVariants.{Heard, Absent}
+use Rattle.std.specs.Prelude.{Option, Some, None}
 use Rattle.frames.specs.declared.heard.VehicleStatus.{VehicleStatus}
 use Rattle.common.specs.Tests.{between}
-use Rattle.lead.specs.Hearing.{hear_status, silence_after}
+use Rattle.lead.specs.Hearing.{hear_known, silence_after}
 use Rattle.lead.specs.declared.state.Car.{Car}
 use Rattle.common.proofs.Bools.{mp, between_of, between_lo, between_hi}
 use Rattle.lead.proofs.Hears.{hear_status_lem, hear_silence, status_heard, status_absent, silence_heard, silence_absent}
@@ -43,29 +42,29 @@ module _ (h : Head) (ticks : List Tick) (k : ℕ) where
 
   -- a tick in 1 to 8
   module _ (t : ℕ) (w : T (between 1 8 (phase t))) where
-    status_now : (s : StatusFrame) → status_at h ticks t k ≡ s → (heard t).status ≡ hear_status s (before t).status
+    status_now : (s : Option VehicleStatus) → status_at h ticks t k ≡ s → (heard t).status ≡ hear_known s (before t).status
     status_now s e = hear_status_lem (input h ticks k t) (lead h ticks k t) w ∙ rw (input_status, e)
 
-    silence_now : (s : StatusFrame) → status_at h ticks t k ≡ s → (heard t).silence ≡ silence_after s (before t).silence
+    silence_now : (s : Option VehicleStatus) → status_at h ticks t k ≡ s → (heard t).silence ≡ silence_after s (before t).silence
     silence_now s e = hear_silence (input h ticks k t) (lead h ticks k t) w ∙ rw (input_status, e)
 
-    hears : (frame : VehicleStatus) → status_at h ticks t k ≡ Heard frame → Knows t (heard t)
+    hears : (frame : VehicleStatus) → status_at h ticks t k ≡ Some frame → Knows t (heard t)
     hears frame e =
         record {
           newest = record { frame = frame; tick = t; sofar = omega arith; there = e; last = λ u x y. absurd (omega arith) };
-          value = rw (status_now (Heard frame) e, status_heard (before t).status frame);
-          silence = silence_now (Heard frame) e ∙ silence_heard (before t).silence frame ∙ omega arith;
+          value = rw (status_now (Some frame) e, status_heard (before t).status frame);
+          silence = silence_now (Some frame) e ∙ silence_heard (before t).silence frame ∙ omega arith;
         }
 
-    stays : status_at h ticks t k ≡ Absent → (heard t).status ≡ (before t).status
-    stays e = status_now Absent e ∙ status_absent (before t).status
+    stays : status_at h ticks t k ≡ None → (heard t).status ≡ (before t).status
+    stays e = status_now None e ∙ status_absent (before t).status
 
     still_seen : T (before t).status.seen → T (heard t).status.seen
     still_seen s = go (status_at h ticks t k) refl
       where
-        go : (o : StatusFrame) → status_at h ticks t k ≡ o → T (heard t).status.seen
-        go (Heard frame) e = rw (status_now (Heard frame) e, status_heard (before t).status frame) tt
-        go Absent e = rw (stays e) s
+        go : (o : Option VehicleStatus) → status_at h ticks t k ≡ o → T (heard t).status.seen
+        go (Some frame) e = rw (status_now (Some frame) e, status_heard (before t).status frame) tt
+        go None e = rw (stays e) s
 
   listens : (t : ℕ) → T (between 2 7 (phase t)) → T (between 1 8 (phase t))
   listens t w =
@@ -84,12 +83,12 @@ module _ (h : Head) (ticks : List Tick) (k : ℕ) where
     -- without a status frame in the next, the newest stays the newest
     waits :
         T (between 1 8 q)
-        → status_at h ticks (suc t) k ≡ Absent
+        → status_at h ticks (suc t) k ≡ None
         → before (suc t) ≡ heard t
         → Knows t (heard t)
         → Knows (suc t) (heard (suc t))
     waits w e kept old =
-        let since : (u : ℕ) → u < suc (suc t) → old.newest.tick < u → status_at h ticks u k ≡ Absent =
+        let since : (u : ℕ) → u < suc (suc t) → old.newest.tick < u → status_at h ticks u k ≡ None =
         one_more (suc t) (λ u x y. old.newest.last u y (omega arith)) (λ x. e) in
         record {
           newest =
@@ -104,7 +103,7 @@ module _ (h : Head) (ticks : List Tick) (k : ℕ) where
           silence =
               omega (
                 arith,
-                silence_now (suc t) w Absent e,
+                silence_now (suc t) w None e,
                 silence_absent (before (suc t)).silence,
                 ap (λ (x : Car). x.silence) kept,
                 old.silence,
@@ -150,12 +149,12 @@ module _ (h : Head) (ticks : List Tick) (k : ℕ) where
   knows (suc t) w s = go (status_at h ticks (suc t) k) refl (knows t)
     where
       go :
-          (o : StatusFrame)
+          (o : Option VehicleStatus)
           → status_at h ticks (suc t) k ≡ o
           → (T (between 1 8 (phase t)) → T (heard t).status.seen → Knows t (heard t))
           → Knows (suc t) (heard (suc t))
-      go (Heard frame) e r = hears (suc t) w frame e
-      go Absent e r =
+      go (Some frame) e r = hears (suc t) w frame e
+      go None e r =
           let was : T (before (suc t)).status.seen = rw (stays (suc t) w e) at s in
           let on : T (between 1 8 (phase t)) = listened t w was in
           let kept : before (suc t) ≡ heard t = car_kept h ticks k t (between_lo 1 8 (phase t) on) in

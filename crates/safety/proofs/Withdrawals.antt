@@ -13,8 +13,9 @@ use Rattle.common.specs.Tests.{between}
 use Rattle.common.proofs.Bools.{holds, imp, mp, between_of, between_lo, between_hi}
 use Rattle.lead.specs.Names.{permission_open, not_enabled}
 use Rattle.lead.specs.Questions.{revokes, reason_of}
-use Rattle.lead.specs.declared.questions.Verdict.{Verdict}
-use Rattle.lead.specs.declared.questions.Verdict.TheVariants.{Urgent}
+use Rattle.std.specs.Prelude.{Result, Err, ⊤}
+use Rattle.lead.specs.declared.questions.Stop.{Stop}
+use Rattle.lead.specs.declared.questions.Stop.TheVariants.{Urgent}
 use Rattle.lead.proofs.Phases.{is_urgent, urgent_with, from2_6, from_2_6}
 use Rattle.lead.proofs.Withdrawals as laws
 use Rattle.lead_records.proofs.Shown.{input_contacts, input_status}
@@ -32,7 +33,7 @@ module _ (h : Head) (ticks : List Tick) (t k : ℕ) where
 
   -- what the input says, as the lead reads it
   abbrev told : Bool
-  told = revokes (input h ticks k t).status
+  told = revokes (input h ticks k t).frames.status
 
   abbrev away : Bool
   away = not (input h ticks k t).contacts.permission
@@ -71,7 +72,7 @@ module _
     abbrev q : ℕ
     q = phase_at h ticks t k
 
-    abbrev v : Verdict
+    abbrev v : Result ⊤ Stop
     v = verdict_at h ticks t k
 
     -- a tick that begins in 2 to 6
@@ -99,7 +100,7 @@ module _
 
       only_then : q ≡ 9 → reason_at h ticks t k ≡ 23 → Withdraws h ticks t k
       only_then nine shows =
-          withdraws_then h ticks t k (urgent_with v (urgently nine) ∙ ap (λ (n : ℕ). Urgent n) (sym reason_says ∙ shows))
+          withdraws_then h ticks t k (urgent_with v (urgently nine) ∙ ap (λ (n : ℕ). Err (Urgent n)) (sym reason_says ∙ shows))
 
       shows_14 : reason_at h ticks t k ≡ 14 → T (not (contacts_at h ticks t k).permission) × T (not (revokes (status_at h ticks t k)))
       shows_14 shows =
@@ -111,7 +112,7 @@ module _
 
     shows_23 : Withdraws h ticks t k → CutOff h ticks t k 23
     shows_23 w =
-        let stop : v ≡ Urgent 23 = stops_urgently h ticks t k w in
+        let stop : v ≡ Err (Urgent 23) = stops_urgently h ticks t k w in
         let nine : q ≡ 9 = into_9 w.phases (rw stop tt) in
         record {
           phase = nine;

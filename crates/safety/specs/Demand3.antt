@@ -1,10 +1,8 @@
 -- Demand 3 of document 00, field by field; its words are defined as document 01's 'Demand 3, word by word' defines them. Definitions only.
-use Rattle.std.specs.Prelude.{Bool, not, ◌&&◌, List, [], ◌∷◌, ◌⊎◌, ◌≡◌, ℕ, zero, suc, ◌+◌, ◌*◌, ◌/◌, ◌≤◌, ◌<◌, min, T, get_or, length}
+use Rattle.std.specs.Prelude.{Bool, not, ◌&&◌, List, [], ◌⊎◌, ◌≡◌, ℕ, zero, suc, ◌+◌, ◌*◌, ◌/◌, ◌≤◌, ◌<◌, min, T, get_or, length, Option, Some, None, Result, Err, ⊤}
 use Rattle.common.specs.Tests.{between}
 use Rattle.little_endian.specs.Numbers.{byte_at}
 use Rattle.frames.specs.Heard.{newest_status, signals_of}
-use Rattle.frames.specs.declared.heard.StatusFrame.{StatusFrame}
-use Rattle.frames.specs.declared.heard.StatusFrame.TheVariants.{Heard, Absent}
 use Rattle.frames.specs.declared.heard.VehicleStatus.{VehicleStatus}
 use Rattle.sharing.specs.Level.{sum, equal_part}
 use Rattle.lead.specs.Names.{permission_open, not_enabled}
@@ -12,8 +10,8 @@ use Rattle.lead.specs.Leads.{fresh}
 use Rattle.lead.specs.Questions.{revokes, verdict, got_no}
 use Rattle.lead.specs.declared.state.Lead.{Lead}
 use Rattle.lead.specs.declared.state.Contacts.{Contacts}
-use Rattle.lead.specs.declared.questions.Verdict.{Verdict}
-use Rattle.lead.specs.declared.questions.Verdict.TheVariants.{Urgent}
+use Rattle.lead.specs.declared.questions.Stop.{Stop}
+use Rattle.lead.specs.declared.questions.Stop.TheVariants.{Urgent}
 use Rattle.lead_records.specs.Inputs.{contacts_of, frame_records}
 use Rattle.post.specs.Heads.{output_part}
 use Rattle.post.specs.Rules.{TickInput, tick_input, input_at, want_after, lead_after}
@@ -70,12 +68,12 @@ module _ (h : Head) (ticks : List Tick) where
   NoAt t k n = T (got_no h.ratings (input_at h (inputs_at t) k) (leads_before t k) n)
 
   -- the verdict of the tick: its stop, if it has one
-  abbrev pub verdict_at : ℕ → ℕ → Verdict
+  abbrev pub verdict_at : ℕ → ℕ → Result ⊤ Stop
   verdict_at t k = verdict h.ratings (input_at h (inputs_at t) k) (leads_before t k)
 
   -- the tick stops the lead, urgently and with this reason
   abbrev pub StopsUrgently : ℕ → ℕ → ℕ → Type 0
-  StopsUrgently t k reason = verdict_at t k ≡ Urgent reason
+  StopsUrgently t k reason = verdict_at t k ≡ Err (Urgent reason)
 
   -- the tick moves the lead from one phase to another
   abbrev pub Moves : ℕ → ℕ → ℕ → ℕ → Type 0
@@ -85,7 +83,7 @@ module _ (h : Head) (ticks : List Tick) where
   contacts_at t k = contacts_of (byte_at ((inputs_at t).records k) 0)
 
   -- the last H'102 of length 8 in the tick's input, records past the count left out
-  abbrev pub status_at : ℕ → ℕ → StatusFrame
+  abbrev pub status_at : ℕ → ℕ → Option VehicleStatus
   status_at t k = newest_status (byte_at ((inputs_at t).records k) 2) (frame_records ((inputs_at t).records k))
 
   pub record Closed (t k : ℕ) : Type 0 where
@@ -115,8 +113,8 @@ module _ (h : Head) (ticks : List Tick) where
     pub frame : VehicleStatus
     pub tick : ℕ
     pub sofar : tick ≤ t
-    pub there : status_at tick k ≡ Heard frame
-    pub last : (u : ℕ) → tick < u → u ≤ t → status_at u k ≡ Absent
+    pub there : status_at tick k ≡ Some frame
+    pub last : (u : ℕ) → tick < u → u ≤ t → status_at u k ≡ None
 
   -- "Its age is the number of ticks after its own." "It asks that much if its requested amperes are at least the new command."
   pub record MayRaise (t k amperes : ℕ) : Type 0 where

@@ -1,9 +1,8 @@
 -- Request 2026-08, "Meters of a stated class": "Wherever such a question is passed, each value in the range would have passed it", over every list
 -- of calls. Definitions only.
-use Rattle.std.specs.Prelude.{List, ◌≡◌, ℕ, ◌<◌, T, length}
+use Rattle.std.specs.Prelude.{List, ◌≡◌, ℕ, ◌<◌, T, length, Some}
 use Rattle.readings.specs.Claims.{StandsFor}
 use Rattle.readings.specs.declared.Tenths.{Tenths}
-use Rattle.readings.specs.declared.Judged.TheVariants.{Good}
 use Rattle.lead.specs.Names.{overvoltage, overcurrent}
 use Rattle.lead.specs.Hearing.{hear}
 use Rattle.lead.specs.Questions.{volts_range, amperes_range, view_of}
@@ -29,13 +28,13 @@ module _ (h : Head) (ticks : List Tick) where
   pub record VoltsMayBe (t k : ℕ) (x : Tenths) : Type 0 where
     pub volts : Tenths
     pub amperes : Tenths
-    pub reads : (input_at h (inputs_at h ticks t) k).reading ≡ Good volts amperes
+    pub reads : (input_at h (inputs_at h ticks t) k).reading ≡ Some (record { volts = volts; amperes = amperes })
     pub stands : StandsFor (volts_range h.ratings.errors volts) x
 
   pub record AmperesMayBe (t k : ℕ) (x : Tenths) : Type 0 where
     pub volts : Tenths
     pub amperes : Tenths
-    pub reads : (input_at h (inputs_at h ticks t) k).reading ≡ Good volts amperes
+    pub reads : (input_at h (inputs_at h ticks t) k).reading ≡ Some (record { volts = volts; amperes = amperes })
     pub stands : StandsFor (amperes_range h.ratings.errors amperes) x
 
   -- "Questions 16 and 17, both 10 V limits and the end of phase 7": the whole question or move holds with the value in the reading's place

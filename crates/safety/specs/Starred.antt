@@ -1,16 +1,11 @@
 -- The starred cases of document 01, in its order, those of readings as 2026-04 has them: what the rules give, beside what is stated.
 -- Definitions only.
-use Rattle.std.specs.Prelude.{true, false, cond, List, [], ◌∷◌, ◌++◌, ℕ, zero, suc, ◌-◌, Float, pos, negsuc, length, replicate}
+use Rattle.std.specs.Prelude.{true, false, cond, List, [], ◌∷◌, ◌++◌, ℕ, zero, suc, ◌-◌, Float, Option, Some, None, pos, negsuc, length, replicate}
 use Rattle.std.specs.Float.{fin}
 use Rattle.common.specs.Tests.{same}
 use Rattle.readings.specs.Value.{number}
 use Rattle.readings.specs.Readings.{of_units, judged_of, exact_meters}
-use Rattle.readings.specs.declared.Judged.TheVariants.{Good}
-use Rattle.readings.specs.declared.Reading.TheVariants.{Value}
 use Rattle.frames.specs.Times.{time_of, charging_ticks}
-use Rattle.frames.specs.declared.heard.BatteryFrame.TheVariants as battery
-use Rattle.frames.specs.declared.heard.TimeFrame.TheVariants as time
-use Rattle.frames.specs.declared.heard.StatusFrame.TheVariants as status
 use Rattle.sharing.specs.Level.{want_of, level_of}
 use Rattle.lead.specs.Names.{insulation_test, charging, no_reason, low_insulation}
 use Rattle.lead.specs.Questions.{meter_of, got_no}
@@ -18,6 +13,7 @@ use Rattle.lead.specs.Power.{wanted_watts, commanded}
 use Rattle.lead.specs.declared.state.Lead.{Lead}
 use Rattle.lead.specs.declared.state.Input.{Input}
 use Rattle.lead.specs.declared.state.Ratings.{Ratings}
+use Rattle.lead.specs.declared.questions.Meter.{Meter}
 use Rattle.lead_records.specs.Inputs.{contacts_of}
 use Rattle.post.specs.Heads.{input_length, head_from}
 use Rattle.post.specs.Rules.{tick_input, lead_after}
@@ -35,9 +31,14 @@ volts_400_25 = fin false 1601 (negsuc 1)
 abbrev minus_zero : Float
 minus_zero = fin true 0 (pos 0)
 
+-- of a meter's reading, 0 of a bad one
+abbrev tenths_of_volts : Option Meter → ℕ
+tenths_of_volts (Some meter) = meter.volts.0
+tenths_of_volts None = 0
+
 -- tenths of a volt at the connector, from volts, amperes and the bits of the cable resistance
 abbrev connector : Float → Float → ℕ → ℕ
-connector volts amperes resistance = (meter_of exact_meters (judged_of (Value volts) (Value amperes) resistance)).volts.0
+connector volts amperes resistance = tenths_of_volts (meter_of exact_meters (judged_of (Some volts) (Some amperes) resistance))
 
 -- a post's ratings
 abbrev ratings : Ratings
@@ -53,7 +54,7 @@ lead_at phase command request =
       threshold = 400;
       car =
           record {
-            battery = record { seen = true; maximum = 400 };
+            battery = record { seen = true; value = 400 };
             time = record { seen = true; value = time_of 6 0 };
             status = record { seen = true; value = record { target = 400; request = request; faults = 0; flags = 1 } };
             silence = 0;
@@ -65,11 +66,9 @@ abbrev tested : ℕ → Input
 tested ohms =
     record {
       contacts = contacts_of 7;
-      reading = Good (of_units 400) (of_units 0);
-      insulation = Value (number ohms);
-      battery = battery.Absent;
-      time = time.Absent;
-      status = status.Absent;
+      reading = Some (record { volts = of_units 400; amperes = of_units 0 });
+      insulation = Some (number ohms);
+      frames = record { battery = None; time = None; status = None };
     }
 
 -- 1 where question 27 passes

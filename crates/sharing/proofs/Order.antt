@@ -1,39 +1,43 @@
--- Wants put in order: the same wants, none above its next; and the order of four as the code makes it. Assumes nothing.
+-- Wants put in order: the same wants, none above its next; that a sort makes this order, and five pairs of four. Assumes nothing.
 use mathlib.Core.Bool.{Bool, true, false}
 use mathlib.Core.List.{List, [], ◌∷◌}
 use mathlib.Core.Path.{◌≡◌, refl, sym, ap, ◌∙◌}
-use Prim.Native.Nat.{ℕ, zero, suc, ◌+◌, ◌≤◌, ◌<◌, min, max}
+use Prim.Native.Nat.{ℕ, zero, suc, ◌+◌, ◌-◌, ◌≤◌, ◌<◌, min, max}
+use native.Mathlib.Nat.{le_antisymm}
 use native.Mathlib.Omega.{arith}
 use borrow.Author.Tests.{leb-true, leb-false}
 use lib.Dec.{leb}
-use lib.ListN.{length, drop_of_length-le}
-use Rattle.common.proofs.Spelled.{spelled_is}
-use Rattle.sharing.specs.Level.{places, want_of}
+use lib.ListN.{length, get_or}
+use Rattle.std.specs.List.{sum_by}
+use Rattle.std.specs.List.Sorted.{IsPermutation, IsSorted}
+use Rattle.std.specs.Ordering.{nat_cmp}
+use Rattle.std.proofs.lemmas.List.Sums.{sum_by-cons}
+use Rattle.std.proofs.lemmas.List.Sorted.{IsNonDecreasingBy-from_sort, sum_by-IsPermutation}
+use Rattle.sharing.specs.Level.{want_of}
 use Rattle.sharing.specs.Way.{insert, in_order}
 use Rattle.sharing.proofs.Sums.{sum_of_each}
 
--- what holds of two numbers both ways round holds of their smaller and their larger
-module _ (P : ℕ → ℕ → Type 0) (a b : ℕ) where
-  sorted_pair : P a b → P b a → P (min a b) (max a b)
-  sorted_pair x y = go (leb a b) refl
-    where
-      go : (t : Bool) → leb a b ≡ t → P (min a b) (max a b)
-      go true e =
-          let h : a ≤ b = leb-true a b e in
-          let low : min a b ≡ a = omega arith in
-          let high : max a b ≡ b = omega arith in
-          rw (low, high) x
-      go false e =
-          let h : b < a = leb-false a b e in
-          let low : min a b ≡ b = omega arith in
-          let high : max a b ≡ a = omega arith in
-          rw (low, high) y
+-- two numbers come to the same sum as their smaller and their larger
+pair_sum : (f : ℕ → ℕ) (a b : ℕ) → f (min a b) + f (max a b) ≡ f a + f b
+pair_sum f a b = go (leb a b) refl
+  where
+    go : (t : Bool) → leb a b ≡ t → f (min a b) + f (max a b) ≡ f a + f b
+    go true e =
+        let h : a ≤ b = leb-true a b e in
+        let low : min a b ≡ a = omega arith in
+        let high : max a b ≡ b = omega arith in
+        rw (low, high)
+    go false e =
+        let h : b < a = leb-false a b e in
+        let low : min a b ≡ b = omega arith in
+        let high : max a b ≡ a = omega arith in
+        rw (low, high) (omega arith)
 
 insert_sum : (f : ℕ → ℕ) (want : ℕ) (order : List ℕ) → sum_of_each f (insert want order) ≡ f want + sum_of_each f order
 unfolding insert
 insert_sum f want [] = refl
 insert_sum f want (next ∷ more) =
-    omega (arith, insert_sum f (max want next) more, sorted_pair (λ (a b : ℕ). f a + f b ≡ f want + f next) want next refl (omega arith))
+    omega (arith, insert_sum f (max want next) more, pair_sum f want next)
 
 -- whatever is summed over the wants is the same in order
 pub in_order_sum : (f : ℕ → ℕ) (wants : List ℕ) → sum_of_each f (in_order wants) ≡ sum_of_each f wants
@@ -67,51 +71,49 @@ rises_next least (want ∷ []) up k h = absurd (omega arith)
 rises_next least (want ∷ next ∷ more) up zero h = up.1.0
 rises_next least (want ∷ next ∷ more) up (suc k) h = rises_next want (next ∷ more) up.1 k (omega arith)
 
--- what is in order stays as it is
-insert_least : (want : ℕ) (order : List ℕ) → Rises want order → insert want order ≡ want ∷ order
-unfolding insert
-insert_least want [] up = refl
-insert_least want (next ∷ more) up =
-    let low : min want next ≡ want = omega arith in
-    let high : max want next ≡ next = omega arith in
-    rw (low, high, insert_least next more up.1)
+-- below the least of them no want is
+none_below : (n least : ℕ) (order : List ℕ) → n ≤ least → Rises least order → sum_of_each (λ want. n - want) order ≡ 0
+none_below n least [] h up = refl
+none_below n least (want ∷ more) h up = omega (arith, none_below n want more (omega (arith, up.0)) up.1)
 
-in_order_same : (least : ℕ) (order : List ℕ) → Rises least order → in_order order ≡ order
-unfolding in_order
-in_order_same least [] up = refl
-in_order_same least (want ∷ more) up = rw (in_order_same want more up.1) (insert_least want more up.1)
+abbrev SameSums : List ℕ → List ℕ → Type 0
+SameSums order other = (f : ℕ → ℕ) → sum_of_each f order ≡ sum_of_each f other
 
--- two wants may be put in either way round, or their smaller and their larger
-insert_swap : (a b : ℕ) (order : List ℕ) → insert a (insert b order) ≡ insert b (insert a order)
-unfolding insert
-insert_swap a b [] =
-    let low : min a b ≡ min b a = omega arith in
-    let high : max a b ≡ max b a = omega arith in
-    rw (low, high)
-insert_swap a b (next ∷ more) =
-    let first : min a (min b next) ≡ min b (min a next) = omega arith in
-    rw first (ap (λ (rest : List ℕ). min b (min a next) ∷ rest) (go (leb next (max a b)) refl (insert_swap (max a next) (max b next) more)))
-  where
-    go : (t : Bool) → leb next (max a b) ≡ t
-        → insert (max a next) (insert (max b next) more) ≡ insert (max b next) (insert (max a next) more)
-        → insert (max a (min b next)) (insert (max b next) more) ≡ insert (max b (min a next)) (insert (max a next) more)
-    go true e swapped =
-        let h : next ≤ max a b = leb-true next (max a b) e in
-        let p : (max a (min b next) ≡ max a next) × (max b (min a next) ≡ max b next) = (omega arith, omega arith) in
-        rw (p.0, p.1) swapped
-    go false e swapped =
-        let h : max a b < next = leb-false next (max a b) e in
-        let p : (max a (min b next) ≡ max b (min a next)) × (max b next ≡ max a next) = (omega arith, omega arith) in
-        rw (p.0, p.1)
+first_least : (want next : ℕ) (more rest : List ℕ) → Rises want more → SameSums (want ∷ more) (next ∷ rest) → want ≤ next
+first_least want next more rest up same = omega (arith, none_below want want more (omega arith) up, same (λ k. want - k))
 
-insert_pair : (a b : ℕ) (order : List ℕ) → insert a (insert b order) ≡ insert (min a b) (insert (max a b) order)
-insert_pair a b order = sorted_pair (λ (x y : ℕ). insert a (insert b order) ≡ insert x (insert y order)) a b refl (insert_swap a b order)
+-- there is one order: where whatever is summed is the same over both, they are the same
+one_order : (least from : ℕ) (order other : List ℕ) → Rises least order → Rises from other → SameSums order other → order ≡ other
+one_order least from [] [] up rise same = refl
+one_order least from [] (next ∷ rest) up rise same = absurd (omega (arith, same (λ k. 1)))
+one_order least from (want ∷ more) [] up rise same = absurd (omega (arith, same (λ k. 1)))
+one_order least from (want ∷ more) (next ∷ rest) up rise same =
+    let first : want ≡ next
+    = le_antisymm (first_least want next more rest up.1 same) (first_least next want rest more rise.1 (λ f. sym (same f))) in
+    ap (λ (n : ℕ). n ∷ more) first
+    ∙ ap (λ (l : List ℕ). next ∷ l) (one_order want next more rest up.1 rise.1 (λ f. omega (arith, same f, ap f first)))
 
--- the smaller of two smaller, what is between, and the larger of two larger
-between_rises :
-    (a b c d : ℕ) → a ≤ b → c ≤ d
-    → Rises (min a c) (min a c ∷ min (max a c) (min b d) ∷ max (max a c) (min b d) ∷ max b d ∷ [])
-between_rises a b c d h g = (omega arith, (omega arith, (omega arith, (omega arith, tt))))
+sum_by_lem : (f : ℕ → ℕ) (wants : List ℕ) → sum_of_each f wants ≡ sum_by f wants
+sum_by_lem f [] = refl
+sum_by_lem f (want ∷ more) = ap (λ (x : ℕ). f want + x) (sum_by_lem f more) ∙ sym (sum_by-cons f want more)
+
+sorted_rises :
+    (least : ℕ) (order : List ℕ)
+    → ((k : ℕ) → k < length order → least ≤ want_of order k)
+    → ((i j d : ℕ) → i ≤ j → j < length order → get_or order i d ≤ get_or order j d)
+    → Rises least order
+sorted_rises least [] low up = tt
+sorted_rises least (want ∷ more) low up = (
+  low 0 (omega arith),
+  sorted_rises want more (λ k h. up 0 (suc k) 0 (omega arith) (omega arith)) (λ i j d g h. up (suc i) (suc j) d (omega arith) (omega arith)),
+)
+
+-- the same wants sorted are the wants in order
+pub sorted_in_order : (wants sorted : List ℕ) → IsPermutation wants sorted → IsSorted nat_cmp sorted → sorted ≡ in_order wants
+sorted_in_order wants sorted same up =
+    one_order 0 0 sorted (in_order wants) (sorted_rises 0 sorted (λ k h. omega arith) (IsNonDecreasingBy-from_sort (λ n. n) sorted up))
+    (in_order_rises wants)
+    (λ f. sum_by_lem f sorted ∙ sum_by-IsPermutation f wants sorted same ∙ sym (sum_by_lem f wants) ∙ sym (in_order_sum f wants))
 
 -- The order of four by five pairs: the first two wants, the last two, the smaller ones of these, their larger ones, and what is left between.
 module _ (a b c d : ℕ) where
@@ -127,20 +129,15 @@ module _ (a b c d : ℕ) where
   abbrev other : ℕ
   other = min (max a b) (max c d)
 
-  pub four_in_order : in_order (a ∷ b ∷ c ∷ d ∷ []) ≡ lowest ∷ min between other ∷ max between other ∷ highest ∷ []
-  unfolding in_order
-  four_in_order =
-      ap (λ (l : List ℕ). insert a (insert b l)) (insert_pair c d [])
-      ∙ insert_pair a b (insert (min c d) (insert (max c d) []))
-      ∙ ap (insert (min a b)) (insert_swap (max a b) (min c d) (insert (max c d) []))
-      ∙ insert_pair (min a b) (min c d) (insert (max a b) (insert (max c d) []))
-      ∙ ap (λ (l : List ℕ). insert lowest (insert between l)) (insert_pair (max a b) (max c d) [])
-      ∙ ap (insert lowest) (insert_pair between other (insert highest []))
-      ∙ in_order_same lowest (lowest ∷ min between other ∷ max between other ∷ highest ∷ [])
-      (between_rises (min a b) (max a b) (min c d) (max c d) (omega arith) (omega arith))
+  abbrev by_pairs : List ℕ
+  by_pairs = lowest ∷ min between other ∷ max between other ∷ highest ∷ []
 
--- an array of four has these members
-pub four_members : (wants : List ℕ) → length wants ≡ places → wants ≡ want_of wants 0 ∷ want_of wants 1 ∷ want_of wants 2 ∷ want_of wants 3 ∷ []
-four_members wants e =
-    sym (spelled_is 0 wants places 0 (omega arith))
-    ∙ ap (λ (rest : List ℕ). want_of wants 0 ∷ want_of wants 1 ∷ want_of wants 2 ∷ want_of wants 3 ∷ rest) (drop_of_length-le wants {i = places} (omega arith))
+  pairs_rise : Rises lowest by_pairs
+  pairs_rise = (omega arith, (omega arith, (omega arith, (omega arith, tt))))
+
+  pub four_in_order : in_order (a ∷ b ∷ c ∷ d ∷ []) ≡ lowest ∷ min between other ∷ max between other ∷ highest ∷ []
+  four_in_order =
+      one_order 0 lowest (in_order (a ∷ b ∷ c ∷ d ∷ [])) by_pairs (in_order_rises (a ∷ b ∷ c ∷ d ∷ [])) pairs_rise
+      (λ f.
+      in_order_sum f (a ∷ b ∷ c ∷ d ∷ [])
+      ∙ omega (arith, pair_sum f a b, pair_sum f c d, pair_sum f (min a b) (min c d), pair_sum f (max a b) (max c d), pair_sum f between other))

@@ -1,26 +1,15 @@
 -- The way as the code goes it: place by place, wants of 0 among them. Assumes nothing.
 use mathlib.Core.List.{List, ◌∷◌}
 use mathlib.Core.Path.{◌≡◌, refl, ap}
-use Prim.Native.Nat.{ℕ, zero, suc, ◌+◌, ◌-◌, ◌/◌, ◌≤◌, ◌<◌}
+use Prim.Native.Nat.{ℕ, zero, suc, ◌+◌, ◌-◌, ◌<◌}
 use native.Mathlib.Numerals.{add-one, unary_clauses}
 use native.Mathlib.Omega.{arith}
-use borrow.Author.Tests.{le-leb, lt-leb}
 use lib.ListN.{length, drop, length-drop}
 use lib.Seq.{drop-cons}
 use Rattle.sharing.specs.Level.{want_of}
 use Rattle.sharing.specs.Way.{carried_after, step_of, step_then, way, level_found}
 use Rattle.sharing.specs.declared.Step.{Step}
 use Rattle.sharing.specs.declared.Step.TheVariants.{Met, Last}
-
--- a step, by what an equal part comes to
-module _ (want unmet carried : ℕ) where
-  pub step_meets : want ≤ carried / unmet → step_of want unmet carried ≡ Met want (carried - want)
-  unfolding step_of
-  step_meets h = rw (le-leb want (carried / unmet) h)
-
-  pub step_ends : carried / unmet < want → step_of want unmet carried ≡ Last (carried / unmet)
-  unfolding step_of
-  step_ends h = rw (lt-leb want (carried / unmet) h)
 
 -- one want more met
 pub carried_less : (n : ℕ) (order : List ℕ) (limit : ℕ) → carried_after n order limit - want_of order n ≡ carried_after (n + 1) order limit

@@ -4,10 +4,9 @@ use mathlib.Core.Path.{◌≡◌, refl, sym, ap, ◌∙◌}
 use mathlib.Core.Logic.{◌⊎◌, inl, inr}
 use mathlib.Core.List.{List, [], ◌∷◌}
 use Prim.Native.Nat.{ℕ, zero, suc, ◌+◌, ◌*◌, ◌≤◌, ◌<◌}
+use native.Mathlib.Nat.{le-suc_iff}
 use native.Mathlib.Omega.{arith}
-use lib.Dec.{leb}
 use lib.ListN.{length}
-use borrow.Author.Tests.{leb-true, leb-false}
 use Rattle.sharing.specs.Level.{want_of, sum, largest}
 
 pub sum_le : (n : ℕ) (f g : ℕ → ℕ) → ((k : ℕ) → k < n → f k ≤ g k) → sum n f ≤ sum n g
@@ -17,13 +16,6 @@ sum_le (suc n) f g h = omega (arith, sum_le n f g (λ k x. h k (omega arith)), h
 pub sum_times : (n : ℕ) (f : ℕ → ℕ) (e : ℕ) → sum n (λ k. f k * e) ≡ sum n f * e
 sum_times zero f e = omega arith
 sum_times (suc n) f e = omega (arith, sum_times n f e)
-
-le_cases : (p n : ℕ) → p ≤ suc n → (p ≡ suc n) ⊎ (p ≤ n)
-le_cases p n h = go (leb p n) refl
-  where
-    go : (b : Bool) → leb p n ≡ b → (p ≡ suc n) ⊎ (p ≤ n)
-    go true e = inr (leb-true p n e)
-    go false e = let g : n < p = leb-false p n e in inl (omega arith)
 
 module _ (test : ℕ → Bool) where
   pub largest_within : (top : ℕ) → largest test top ≤ top
@@ -44,12 +36,12 @@ module _ (test : ℕ → Bool) where
 
   pub largest_most : (top j : ℕ) → j ≤ top → test j ≡ true → j ≤ largest test top
   largest_most zero j h t = h
-  largest_most (suc top) j h t = go (test (suc top)) refl (le_cases j top h) (λ x. largest_most top j x t)
+  largest_most (suc top) j h t = go (test (suc top)) refl (le-suc_iff.0 h) (λ x. largest_most top j x t)
     where
-      go : (b : Bool) → test (suc top) ≡ b → (j ≡ suc top) ⊎ (j ≤ top) → (j ≤ top → j ≤ largest test top) → j ≤ cond b (suc top) (largest test top)
+      go : (b : Bool) → test (suc top) ≡ b → (j ≤ top) ⊎ (j ≡ suc top) → (j ≤ top → j ≤ largest test top) → j ≤ cond b (suc top) (largest test top)
       go true e d r = h
-      go false e (inl q) r = (let z : ◌≡◌ {A = Bool} true false = sym t ∙ ap test q ∙ e in let y : ◌≡◌ {A = ℕ} 0 1 = cc in omega arith)
-      go false e (inr x) r = r x
+      go false e (inr q) r = (let z : ◌≡◌ {A = Bool} true false = sym t ∙ ap test q ∙ e in let y : ◌≡◌ {A = ℕ} 0 1 = cc in omega arith)
+      go false e (inl x) r = r x
 
 pub largest_same : (f g : ℕ → Bool) → ((j : ℕ) → f j ≡ g j) → (top : ℕ) → largest f top ≡ largest g top
 largest_same f g e zero = refl

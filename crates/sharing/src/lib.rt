@@ -1,8 +1,8 @@
 // Sharing a power limit out: document 01, 'Dividing the allowance', in the way that request 2026-03 asks for. Wants and the limit are in
-// watts. Rests on common.
+// watts. Rests on nothing.
 #![tactic(auto)]
 
-ghost use Rattle.std.specs.Prelude.{List, ◌≡◌, ℕ, ◌+◌, ◌<◌, min, max};
+ghost use Rattle.std.specs.Prelude.{List, ◌≡◌, ℕ, ◌+◌, ◌<◌};
 ghost use Rattle.sharing.specs.Level.{places, want_of, level_of};
 ghost use Rattle.sharing.specs.Way.{in_order, carried_after, step_of, way, level_found};
 ghost use Rattle.sharing.specs.declared.Step.TheVariants.{Met};
@@ -10,37 +10,16 @@ ghost use Rattle.sharing.specs.declared.Step.TheVariants.{Met};
 // As many as may want power at once; a place that nobody has wants 0.
 pub const PLACES: usize = 4;
 
-fn lesser(a: u32, b: u32) -> u32
-    ensures { result ≡ min a b }
-{
-    if a < b { a } else { b }
-}
-
-fn greater(a: u32, b: u32) -> u32
-    ensures { result ≡ max a b }
-{
-    if a < b { b } else { a }
-}
-
-// Smallest first. The smallest of all is the smaller one of two pairs' smaller, the largest the larger one of their larger; the other two
-// stand between them, the smaller one of these first.
-fn in_order(wants: [u32; PLACES]) -> [u32; PLACES]
+// Smallest first.
+fn in_order(mut wants: [u32; PLACES]) -> [u32; PLACES]
     ensures { result ≡ in_order wants }
 {
-    let low = lesser(wants[0], wants[1]);
-    let high = greater(wants[0], wants[1]);
-    let other_low = lesser(wants[2], wants[3]);
-    let other_high = greater(wants[2], wants[3]);
-    let smallest = lesser(low, other_low);
-    let between = greater(low, other_low);
-    let other_between = lesser(high, other_high);
-    let largest = greater(high, other_high);
-    let second = lesser(between, other_between);
-    let third = greater(between, other_between);
-    [smallest, second, third, largest]
+    wants.sort_unstable();
+    wants
 }
 
 // What a step comes to.
+// Kept: an enum of its own. Way.antt and the claims of 2026-03 (`carried_along`) speak of `Met`, with the want that it meets, and of `Last`.
 #[derive(Clone, Copy)]
 enum Step {
     // It meets a want in full, and carries on what is left. Only the claims look at which want it is.
@@ -52,6 +31,7 @@ enum Step {
 // A want is met where an equal part of the watts carried, for each who is not yet met, reaches it; else the part is the level. Whatever wants
 // and limit it is a step of: if this want comes after n others, and what comes in is the limit less those, then what goes on is the limit less
 // these n + 1.
+#[tactic(auto, using(crate::proofs::Steps::carried_less), unfolding(crate::specs::Way::step_of))]
 fn take_step(want: u32, unmet: u32, carried: u32) -> Step
     requires { 0 < unmet }
     ensures step { result ≡ step_of want unmet carried }
@@ -75,24 +55,19 @@ fn found(order: [u32; PLACES], limit: u32) -> u32
     ensures { result ≡ level_found (way order limit) limit }
 {
     let mut carried = limit;
-    let mut place = 0;
-    while place < PLACES {
-        let want = order[place];
+    for (place, &want) in order.iter().enumerate() {
         if want > 0 {
             match take_step(want, (PLACES - place) as u32, carried) {
-                Step::Met {
-                    want: _,
-                    carried: left,
-                } => carried = left,
+                Step::Met { carried: left, .. } => carried = left,
                 Step::Last { level } => return level,
             }
         }
-        place += 1;
     }
     limit
 }
 
 // The wants are met from the smallest up, as long as an equal part of what is left is enough.
+#[tactic(auto, using(crate::proofs::Way::way_level))]
 pub fn level(wants: [u32; PLACES], limit: u32) -> u32
     ensures { result ≡ level_of places (want_of wants) limit }
 {

@@ -17,7 +17,7 @@ slice_bounds-tick-end-2 c =
 pub slice_bounds-tick-end-3 : goal.slice_bounds-tick-end-3
 slice_bounds-tick-end-3 c =
     sym
-    (length-take-le c.lesser-length.result c.args.input.now (omega (arith, c.lesser-length.ensures)))
+    (length-take-le c.min-length.result c.args.input.now (omega (arith, c.min-length.ensures)))
 
 pub slice_bounds-tick-end-5 : goal.slice_bounds-tick-end-5
 slice_bounds-tick-end-5 c =
@@ -30,8 +30,8 @@ returns c =
     let t = c.tick in
     let l = c.state_length-end in
     let a = c.args in
-    let much : c.lesser-length.result ≡ min (max (input_length a.leads) a.count) (length a.input.now) =
-    c.lesser-length.ensures ∙ rw (c.greater.ensures, c.input_length.ensures) in
+    let much : c.min-length.result ≡ min (max (input_length a.leads) a.count) (length a.input.now) =
+    c.min-length.ensures ∙ rw (c.max.ensures, c.input_length.ensures) in
     tick_front a.state.now a.input.now a.output.now t.new.state t.new.output (max (input_length a.leads) a.count)
     l.ensures (omega (arith, l.ensures)) (omega arith) much c.output_length-shown.ensures
     (omega (arith, c.output_length-shown.ensures)) (omega arith) t.ensures

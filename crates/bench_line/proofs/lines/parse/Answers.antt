@@ -1,32 +1,37 @@
--- `bench_line::lines::parse` meets its contract. Each return is a line by its length, its first tab and its first word. Assumes nothing.
+-- `bench_line::lines::parse` meets its contract. Each return is a line by its length, its fields and its first word. Assumes nothing.
 use mathlib.Core.Bool.{true, false}
-use mathlib.Core.Path.{refl, sym, ◌∙◌}
+use mathlib.Core.Path.{refl, ◌∙◌}
 use native.Mathlib.Omega.{arith}
-use Rattle.bench_line.proofs.Words.{parsed_long, parsed_one, parsed_word}
+use Rattle.bench_line.proofs.Words.{parsed_long, parsed_one, parsed_word, told}
+use Rattle.bench_line.specs.Lines.{tick_word, setup_word}
 use Rattle.bench_line.proofs.lines.parse.Goals as goal
 
 pub returns-then-line-gt-LONGEST : goal.returns-then-line-gt-LONGEST
-returns-then-line-gt-LONGEST c =
-    let a = c.args in
-    parsed_long a.line.now a.input.now c.if-line-gt-LONGEST.true
+returns-then-line-gt-LONGEST c = parsed_long c.args.line.now c.args.input.now c.if-line-gt-LONGEST.true
 
-pub returns-then-end-line : goal.returns-then-end-line
-returns-then-end-line c =
-    let a = c.args in
-    parsed_one a.line.now a.input.now (omega arith) (omega arith)
+pub returns-in_err-word : goal.returns-in_err-word
+returns-in_err-word c =
+    rw c.from_residual.ensures (parsed_one c.args.line.now c.args.input.now (omega arith) c.in_err-word.ensures)
 
-pub returns-then-is_same : goal.returns-then-is_same
-returns-then-is_same c =
+pub returns-then-eq : goal.returns-then-eq
+returns-then-eq c =
+    let w = c.in_ok-word.word.now in
     c.tick_line.ensures
-    ∙ parsed_word c.args.line.now c.args.input.now c.first_tab-end.result (omega arith) c.first_tab-end.ensures.0 (omega arith) true _ (sym c.is_same.ensures ∙ c.if-is_same.true) refl
+    ∙ parsed_word c.args.line.now c.args.input.now w _ true _ (omega arith) c.in_ok-word.ensures
+    (told w tick_word c.eq.ensures c.as_slice.ensures c.if-eq.true)
+    refl
 
-pub returns-then-is_same-2 : goal.returns-then-is_same-2
-returns-then-is_same-2 c =
+pub returns-then-eq-2 : goal.returns-then-eq-2
+returns-then-eq-2 c =
+    let w = c.in_ok-word.word.now in
     rw c.setup_line.ensures
-    (parsed_word c.args.line.now c.args.input.now c.first_tab-end.result (omega arith) c.first_tab-end.ensures.0 (omega arith) false true (sym c.is_same.ensures ∙ c.if-is_same.false)
-    (sym c.is_same-2.ensures ∙ c.if-is_same-2.true))
+    (parsed_word c.args.line.now c.args.input.now w _ false true (omega arith) c.in_ok-word.ensures
+    (told w tick_word c.eq.ensures c.as_slice.ensures c.if-eq.false)
+    (told w setup_word c.eq-2.ensures c.as_slice-2.ensures c.if-eq-2.true))
 
 pub returns : goal.returns
 returns c =
-    parsed_word c.args.line.now c.args.input.now c.first_tab-end.result (omega arith) c.first_tab-end.ensures.0 (omega arith) false false (sym c.is_same.ensures ∙ c.if-is_same.false)
-    (sym c.is_same-2.ensures ∙ c.if-is_same-2.false)
+    let w = c.in_ok-word.word.now in
+    parsed_word c.args.line.now c.args.input.now w _ false false (omega arith) c.in_ok-word.ensures
+    (told w tick_word c.eq.ensures c.as_slice.ensures c.if-eq.false)
+    (told w setup_word c.eq-2.ensures c.as_slice-2.ensures c.if-eq-2.false)

@@ -1,20 +1,37 @@
--- `bench_line::lines::setup_line` meets its contract. A decimal field, and the fields behind it. Assumes nothing.
-use mathlib.Core.Path.{refl, sym, ◌∙◌}
-use Rattle.bench_line.specs.Digits.{decimal_of}
-use Rattle.bench_line.specs.Lines.{after_leads}
-use Rattle.bench_line.specs.declared.fields.Field.TheVariants as field
-use Rattle.bench_line.proofs.Rests.{behind}
+-- `bench_line::lines::setup_line` meets its contract. The last field is the whole rest of the line. Assumes nothing.
+use mathlib.Core.Path.{sym, ◌∙◌}
+use Rattle.bench_line.proofs.Rests.{decimal_last_lem}
 use Rattle.bench_line.proofs.lines.setup_line.Goals as goal
 
-pub returns-in_default : goal.returns-in_default
-returns-in_default c =
-    behind decimal_of c.args.fields.now field.Not (sym c.decimal_field.ensures ∙ c.in_default.is) after_leads (λ v. refl)
-
-pub slice_bounds-after_leads-count : goal.slice_bounds-after_leads-count
-slice_bounds-after_leads-count c = (behind decimal_of c.args.fields.now _ (sym c.decimal_field.ensures ∙ c.in-At.is)).0
-
-pub slice_bounds-after_leads-start : goal.slice_bounds-after_leads-start
-slice_bounds-after_leads-start c = (behind decimal_of c.args.fields.now _ (sym c.decimal_field.ensures ∙ c.in-At.is)).0
+pub returns-in_err-decimal-5 : goal.returns-in_err-decimal-5
+returns-in_err-decimal-5 c =
+    rw (
+      c.from_residual-in_err-decimal-5.ensures,
+      c.in_ok-leads.ensures,
+      c.in_ok-volts.ensures,
+      c.in_ok-amperes.ensures,
+      c.in_ok-resistance.ensures,
+      c.in_ok-volts_error.ensures,
+      ← c.in_ok-decimal.ensures,
+      ← c.in_ok-decimal-2.ensures,
+      ← c.in_ok-decimal-3.ensures,
+      ← c.in_ok-bits.ensures,
+      ← c.in_ok-decimal-4.ensures,
+    )
+    (decimal_last_lem c.in_ok-volts_error.amperes_error.now _ _ (sym c.decimal-5.ensures ∙ c.in_err-decimal-5.was))
 
 pub returns : goal.returns
-returns c = c.after_leads.ensures ∙ (behind decimal_of c.args.fields.now _ (sym c.decimal_field.ensures ∙ c.in-At.is)).1 after_leads
+returns c =
+    rw (
+      c.in_ok-leads.ensures,
+      c.in_ok-volts.ensures,
+      c.in_ok-amperes.ensures,
+      c.in_ok-resistance.ensures,
+      c.in_ok-volts_error.ensures,
+      ← c.in_ok-decimal.ensures,
+      ← c.in_ok-decimal-2.ensures,
+      ← c.in_ok-decimal-3.ensures,
+      ← c.in_ok-bits.ensures,
+      ← c.in_ok-decimal-4.ensures,
+    )
+    (decimal_last_lem c.in_ok-volts_error.amperes_error.now _ _ (sym c.decimal-5.ensures ∙ c.in_ok-decimal-5.was))

@@ -1,12 +1,12 @@
 -- `bench_line::numbers::decimal` meets its contract. The test of the length, and the call. Assumes nothing.
-use borrow.Author.Tests.{eq-eqb, ne_eqb}
+use mathlib.Core.Path.{sym, ◌∙◌}
 use Rattle.bench_line.specs.Digits.{decimal_of}
 use Rattle.bench_line.proofs.numbers.decimal.Goals as goal
 
-pub returns-then-field-eq0 : goal.returns-then-field-eq0
+pub returns-then-is_empty : goal.returns-then-is_empty
 unfolding decimal_of
-returns-then-field-eq0 c = rw (eq-eqb _ _ c.if-field-eq0.true)
+returns-then-is_empty c = rw (sym c.is_empty.ensures ∙ c.if-is_empty.true)
 
 pub returns : goal.returns
 unfolding decimal_of
-returns c = rw (ne_eqb _ _ c.if-field-eq0.false) c.number_in.ensures
+returns c = rw (sym c.is_empty.ensures ∙ c.if-is_empty.false) c.number_in.ensures

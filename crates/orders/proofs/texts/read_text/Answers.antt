@@ -1,74 +1,68 @@
--- `orders::texts::read_text` meets its contract. The loop's invariant: the orders of the lines passed are in their places, and the lines left decide. Assumes nothing.
-use mathlib.Core.Path.{sym, ◌∙◌}
-use native.Mathlib.Omega.{arith}
-use Rattle.orders.proofs.Progress.{progress_begins, progress_length, order_there, line_65, line_not, line_used, line_taken, answer_refused, answer_accepted}
+-- `orders::texts::read_text` meets its contract. The loop's invariant: the lines left decide, behind the orders kept. Assumes nothing.
+use Rattle.std.proofs.Common.{◌≡◌, ◌+◌, ◌∷◌, length, drop, sym, subst, ap, ◌∙◌, arith, rules, tests, Err}
+use Rattle.std.proofs.lemmas.Iterator.Consumers.{YieldsList-turn, YieldsList-end}
+use Rattle.std.proofs.lemmas.List.{drop_all, length_push}
+use Rattle.std.specs.Slice.Iter.{split_inclusive_rest, split_inclusive_callee}
+use Rattle.orders.specs.Lines.{lines_of}
+use Rattle.orders.specs.Texts.{read_from}
+use Rattle.orders.specs.Scans.{Adds, unended, refused_at, answer_in}
+use Rattle.orders.proofs.Cuts.{lines_given}
+use Rattle.orders.proofs.Reading.{line_turn}
 use Rattle.orders.proofs.texts.read_text.Goals as goal
 
-pub loop-at-init : goal.loop-at-init
-loop-at-init c = progress_begins _ _ c.clear.ensures
+pub returns-in_err-order : goal.returns-in_err-order
+returns-in_err-order c =
+    let cut = c.split_inclusive-line-items in
+    let given = c.into_iter-line-iterator.ensures.into_iter_gives in
+    let l = c.loop-line in
+    let line = unended c.in-Some.line.now in
+    let all = lines_of c.args.text.now in
+    let e = lines_given _ c.args.text.now c.into_iter-line-iterator.result (ap split_inclusive_rest given ∙ cut.ensures.rest)
+    (ap split_inclusive_callee given ∙ cut.ensures.closure) _ _ _
+    c.next.ensures.steps
+    (λ x b q k. search (rules, tests)) in
+    let t = YieldsList-turn e l.yielded _ l.yielded_by _ _ c.in-Some.line c.in-Some.is c.next.ensures.steps in
+    let refused = c.in_err-order.field-0.0 in
+    let result : c.from_residual.result ≡ Err refused = search rules in
+    let adds = subst (Adds refused_at l.kept c.unended.result.now) c.in_err-order.was c.next_order.ensures in
+    ap (answer_in l.kept) result
+    ∙ sym (l.invariant.2
+    ∙ line_turn l.kept all (length l.yielded) line t
+    ∙ ap (λ x. read_from l.kept (x ∷ drop (length l.yielded + 1) all)) (sym c.unended.ensures)
+    ∙ adds (drop (length l.yielded + 1) all))
 
-pub refused-requires : goal.refused-requires
-refused-requires c = c.loop-at.invariant.few
-
-pub shape_of-orders-then-count-eq-PLACE_COUNT : goal.shape_of-orders-then-count-eq-PLACE_COUNT
-shape_of-orders-then-count-eq-PLACE_COUNT c =
-    progress_length c.loop-at.invariant ∙ sym c.requires
-
-pub returns-then-count-eq-PLACE_COUNT : goal.returns-then-count-eq-PLACE_COUNT
-returns-then-count-eq-PLACE_COUNT c =
-    answer_refused _ _ 35 _ (line_65 c.loop-at.invariant c.loop-at-test.true c.if-count-eq-PLACE_COUNT.true)
-    c.refused.ensures
-
-pub refused-requires-in_default : goal.refused-requires-in_default
-refused-requires-in_default c = c.loop-at.invariant.few
-
-pub shape_of-orders-in_default : goal.shape_of-orders-in_default
-shape_of-orders-in_default c =
-    progress_length c.loop-at.invariant ∙ sym c.requires
-
-pub returns-in_default : goal.returns-in_default
-returns-in_default c =
-    answer_refused _ _ 33 _
-    (line_not c.loop-at.invariant c.loop-at-test.true c.if-count-eq-PLACE_COUNT.false
-    (sym c.in_default.is ∙ c.order_at.ensures))
-    c.refused-in_default.ensures
-
-pub is_used-requires : goal.is_used-requires
-is_used-requires c =
-    omega (arith, progress_length c.loop-at.invariant, c.loop-at.invariant.few)
-
-pub refused-requires-then-is_used : goal.refused-requires-then-is_used
-refused-requires-then-is_used c = c.loop-at.invariant.few
-
-pub shape_of-orders-then-is_used : goal.shape_of-orders-then-is_used
-shape_of-orders-then-is_used c =
-    progress_length c.loop-at.invariant ∙ sym c.requires
-
-pub returns-then-is_used : goal.returns-then-is_used
-returns-then-is_used c =
-    answer_refused _ _ 34 _
-    (line_used c.loop-at.invariant c.loop-at-test.true c.if-count-eq-PLACE_COUNT.false _ _ (sym c.in-Line.is ∙ c.order_at.ensures) (sym c.if-is_used.true ∙ c.is_used.ensures))
-    c.refused-then-is_used.ensures
-
-pub put-requires : goal.put-requires
-put-requires c =
-    let left = c.if-count-eq-PLACE_COUNT.false in
-    omega (arith, progress_length c.loop-at.invariant, c.loop-at.invariant.few)
-
-pub loop-at-smaller : goal.loop-at-smaller
-loop-at-smaller c =
-    omega (arith, (order_there _ _ _ _ (sym c.in-Line.is ∙ c.order_at.ensures)).1, c.next_line-at.ensures)
-
-pub loop-at-preserved : goal.loop-at-preserved
-loop-at-preserved c =
-    line_taken c.loop-at.invariant c.loop-at-test.true c.if-count-eq-PLACE_COUNT.false _ _ (sym c.in-Line.is ∙ c.order_at.ensures) _ _
-    (sym c.if-is_used.false ∙ c.is_used.ensures)
-    c.put.ensures
-    c.next_line-at.ensures
-
-pub shape_of-orders : goal.shape_of-orders
-shape_of-orders c =
-    progress_length c.loop-at.invariant ∙ sym c.requires
+pub loop-line-preserved : goal.loop-line-preserved
+loop-line-preserved c =
+    let cut = c.split_inclusive-line-items in
+    let given = c.into_iter-line-iterator.ensures.into_iter_gives in
+    let l = c.loop-line in
+    let line = unended c.in-Some.line.now in
+    let all = lines_of c.args.text.now in
+    let e = lines_given _ c.args.text.now c.into_iter-line-iterator.result (ap split_inclusive_rest given ∙ cut.ensures.rest)
+    (ap split_inclusive_callee given ∙ cut.ensures.closure) _ _ _
+    c.next.ensures.steps
+    (λ x b q k. search (rules, tests)) in
+    let t = YieldsList-turn e l.yielded _ l.yielded_by _ _ c.in-Some.line c.in-Some.is c.next.ensures.steps in
+    let adds = subst (Adds refused_at l.kept c.unended.result.now) c.in_ok-order.was c.next_order.ensures in (
+      search rules,
+      search rules,
+      l.invariant.2
+          ∙ line_turn l.kept all (length l.yielded) line t
+          ∙ ap (λ x. read_from l.kept (x ∷ drop (length l.yielded + 1) all)) (sym c.unended.ensures)
+          ∙ adds.1 (drop (length l.yielded + 1) all)
+          ∙ ap (λ os. read_from os (drop (length l.yielded + 1) all)) (sym c.push.ensures)
+          ∙ ap (λ n. read_from c.push.new.self (drop n all)) (sym (length_push l.yielded c.in-Some.line)),
+    )
 
 pub returns : goal.returns
-returns c = answer_accepted _ _ c.loop-at.invariant c.loop-at-test.false
+returns c =
+    let cut = c.split_inclusive-line-items in
+    let given = c.into_iter-line-iterator.ensures.into_iter_gives in
+    let l = c.loop-line in
+    let all = lines_of c.args.text.now in
+    let e = lines_given _ c.args.text.now c.into_iter-line-iterator.result (ap split_inclusive_rest given ∙ cut.ensures.rest)
+    (ap split_inclusive_callee given ∙ cut.ensures.closure) _ _ _
+    c.next.ensures.steps
+    (λ x b q k. search (rules, tests)) in
+    let t = YieldsList-end e l.yielded _ l.yielded_by _ _ c.in-None.is c.next.ensures.steps in
+    sym (l.invariant.2 ∙ ap (read_from l.kept) (drop_all (length l.yielded) all (omega (arith, t.1))))

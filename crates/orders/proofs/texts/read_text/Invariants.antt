@@ -1,13 +1,12 @@
--- `orders::texts::read_text` meets its contract. The loop's invariant: the orders of the lines passed are in their places, and the lines left decide. Assumes nothing.
-use Prim.Native.Nat.{◌-◌}
-use lib.ListN.{length}
-use Rattle.orders.proofs.Progress.{Progress}
+-- `orders::texts::read_text` meets its contract. The loop's invariant: the lines left decide, behind the orders kept. Assumes nothing.
+use mathlib.Core.Path.{◌≡◌}
+use lib.ListN.{length, drop}
+use Rattle.orders.specs.Lines.{lines_of}
+use Rattle.orders.specs.Texts.{read_from}
 use Rattle.orders.proofs.texts.read_text.Given as goal
 
-abbrev pub invariant-loop-at : goal.invariant-loop-at
-invariant-loop-at l =
-    Progress l.text l.orders l.count l.at
-
-abbrev pub decreases-loop-at : goal.decreases-loop-at
-decreases-loop-at l =
-    length l.text - l.at
+abbrev pub invariant-loop-line : goal.invariant-loop-line
+invariant-loop-line l =
+    (goal.iterator-loop-line).can_next l.line-iterator
+    × (goal.iterator-loop-line).is_finite l.line-iterator
+    × (read_from l.initial.kept (lines_of l.text) ≡ read_from l.kept (drop (length l.yielded) (lines_of l.text)))

@@ -8,8 +8,8 @@ use Rattle.post.proofs.fresh.write_fresh_leads.Given as goal
 
 abbrev pub invariant-loop-i : goal.invariant-loop-i
 invariant-loop-i l =
-    (l.i ≤ l.leads-2) × Filling head_size state_size (λ k. encode fresh) l.initial.state l.state l.i
+    (l.i ≤ l.leads) × Filling head_size state_size (λ k. encode fresh) l.initial.state l.state l.i
 
 abbrev pub decreases-loop-i : goal.decreases-loop-i
 decreases-loop-i l =
-    l.leads-2 - l.i
+    l.leads - l.i

@@ -6,7 +6,8 @@ use lib.ListN.{length, get_or}
 use Rattle.sharing.specs.Level.{places}
 use Rattle.post.specs.Rules.{tick_input}
 use Rattle.post.specs.Calls.{leads_of}
-use Rattle.post.specs.Turns.{empty_turn, turn_at, among}
+use Rattle.lead_records.specs.Turns.{empty_turn}
+use Rattle.post.specs.Turns.{turn_at, among}
 use Rattle.post.proofs.Tables.{Wanted}
 use Rattle.post.proofs.turns.decide_all.Given as goal
 

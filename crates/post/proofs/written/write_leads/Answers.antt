@@ -9,8 +9,8 @@ use Rattle.lead_records.specs.Outputs.{output_size}
 use Rattle.lead_records.proofs.RoundTrip.{encode_length}
 use Rattle.lead_records.proofs.Shown.{output_length_lem}
 use Rattle.post.specs.Heads.{head_size}
-use Rattle.post.specs.Turns.{turn_shown}
-use Rattle.post.specs.declared.turns.Turn.{Turn}
+use Rattle.lead_records.specs.Turns.{turn_shown}
+use Rattle.lead_records.specs.declared.turns.Turn.{Turn}
 use Rattle.common.proofs.Joined.{filled_none, filled_written, filled_all}
 use Rattle.post.proofs.written.write_leads.Invariants.{kept, shown}
 use Rattle.post.proofs.written.write_leads.Goals as goal

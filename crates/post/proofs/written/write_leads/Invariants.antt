@@ -7,8 +7,8 @@ use Rattle.lead.specs.declared.state.Ratings.{Ratings}
 use Rattle.lead_records.specs.States.{state_size, encode}
 use Rattle.lead_records.specs.Outputs.{output_size}
 use Rattle.post.specs.Heads.{head_size}
-use Rattle.post.specs.Turns.{empty_turn, commanded_turn, turn_shown}
-use Rattle.post.specs.declared.turns.Turn.{Turn}
+use Rattle.lead_records.specs.Turns.{empty_turn, commanded_turn, turn_shown}
+use Rattle.lead_records.specs.declared.turns.Turn.{Turn}
 use Rattle.common.proofs.Joined.{Filling}
 use Rattle.post.proofs.written.write_leads.Given as goal
 

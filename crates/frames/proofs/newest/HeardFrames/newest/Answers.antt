@@ -1,37 +1,37 @@
--- `frames::newest::HeardFrames::newest` meets its contract. Each frame is that of the record found, by `found_newest`. Assumes nothing.
+-- `frames::newest::HeardFrames::newest` meets its contract. Each chunk is the next record. Assumes nothing.
+use mathlib.Core.Path.{sym, ap, ◌∙◌}
+use Prim.Native.Nat.{◌/◌}
+use native.Mathlib.Numerals.{add-one}
+use native.Mathlib.Omega.{arith}
+use lib.ListN.{length, length-append}
+use Rattle.frames.specs.Records.{record_size, newest_record}
 use Rattle.frames.specs.Heard.{newest_battery, newest_time, newest_status}
-use Rattle.frames.proofs.Found.{found_newest, found_within}
+use Rattle.frames.proofs.Passed.{heard_among, next_record, heard_further, all_passed}
 use Rattle.frames.proofs.newest.HeardFrames.newest.Goals as goal
 
-pub numbered_record-requires : goal.numbered_record-requires
-numbered_record-requires c =
-    let a = c.args in
-    rw c.among-found.ensures (found_within 0x100 a.count a.records.now)
-
-pub numbered_record-requires-2 : goal.numbered_record-requires-2
-numbered_record-requires-2 c =
-    let a = c.args in
-    rw c.among-found.ensures (found_within 0x101 a.count a.records.now)
-
-pub numbered_record-requires-3 : goal.numbered_record-requires-3
-numbered_record-requires-3 c =
-    let a = c.args in
-    rw c.among-found.ensures (found_within 0x102 a.count a.records.now)
+pub loop-frame-preserved : goal.loop-frame-preserved
+loop-frame-preserved c =
+    let l = c.loop-frame in
+    let s = c.args.records.now in
+    let n = length l.yielded in
+    let frame = c.in-Some.frame.now in
+    let steps = c.in-Some.ensures.steps in
+    let next = next_record s frame _ (length s / record_size) n (sym l.invariant.rest ∙ steps.0) in
+    let said = c.with-heard.ensures in
+    rw (length-append, add-one)
+    record {
+      heard = heard_further s frame n l.heard c.with-heard.result l.invariant.heard next.0 said.battery said.time said.status;
+      to_take = omega (arith, steps.1, l.invariant.to_take);
+      rest = next.1;
+      passed = next.2;
+    }
 
 pub returns : goal.returns
-unfolding newest_battery newest_time newest_status
+unfolding newest_battery newest_time newest_status newest_record
 returns c =
-    let a = c.args in
-    let s = a.records.now in
-    rw (
-      c.read-3.ensures,
-      c.numbered_record-3.ensures,
-      c.read-2.ensures,
-      c.numbered_record-2.ensures,
-      c.read.ensures,
-      c.numbered_record.ensures,
-      c.among-found.ensures,
-      found_newest 0x100 a.count s,
-      found_newest 0x101 a.count s,
-      found_newest 0x102 a.count s,
-    )
+    let l = c.loop-frame in
+    let s = c.args.records.now in
+    let n = length l.yielded in
+    let passed = all_passed s c.args.count _ (length s / record_size) n l.invariant.to_take l.invariant.passed
+    (λ some. sym (ap length l.invariant.rest) ∙ (c.in-None.ensures.steps some).0) in
+    l.invariant.heard ∙ ap (heard_among s) passed

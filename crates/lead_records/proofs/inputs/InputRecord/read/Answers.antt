@@ -8,12 +8,12 @@ unfolding input_of
 returns c =
     let b = c.args.bytes.now in
     rw (
-      c.from_bytes.ensures,
+      c.reading_from.ensures,
       c.judge.ensures,
       c.contacts.ensures,
-      c.newest-heard.ensures,
-      c.from_bytes-amperes.ensures,
-      c.from_bytes-volts.ensures,
+      c.newest.ensures,
+      c.reading_from-amperes.ensures,
+      c.reading_from-volts.ensures,
       u32_part b 4,
       u32_part b 8,
       u32_part b 12,

@@ -16,9 +16,8 @@ returns c =
     ∙ rw (
       c.copy_from_slice.ensures.after,
       c.write_frames.ensures,
-      c.high_byte.ensures,
-      c.low_byte.ensures,
+      c.u16_bytes.ensures,
       c.switches.ensures,
-      c.test_volts-test.ensures,
+      c.test_volts.ensures,
       append_assoc,
     )

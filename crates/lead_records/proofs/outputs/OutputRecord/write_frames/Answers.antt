@@ -1,5 +1,5 @@
 -- `lead_records::outputs::OutputRecord::write_frames` meets its contract. Zeros, or both frames copied one behind the other. Assumes nothing.
-use mathlib.Core.Path.{ap, ◌∙◌}
+use mathlib.Core.Path.{sym, ap, ◌∙◌}
 use lib.ListN.{length}
 use Rattle.frames.specs.Sent.{offer_bytes, report_bytes}
 use Rattle.lead_records.specs.Outputs.{frame_size}
@@ -12,7 +12,7 @@ returns-then-sending c =
     let first = c.copy_from_slice.ensures.after ∙ c.offer-offer.ensures in
     let second = c.copy_from_slice-then-sending.ensures.after ∙ c.report-report.ensures in
     written_both c.copy_from_slice.new.self c.args.frames.now c.copy_from_slice-then-sending.new.self frame_size (ap length first)
-    ∙ rw (c.if-sending.true, first, second)
+    ∙ rw (sym c.is_between-sending.ensures ∙ c.if-sending.true, first, second)
 
 pub returns : goal.returns
-returns c = c.copy_from_slice-2.ensures.after ∙ rw c.if-sending.false
+returns c = c.copy_from_slice-2.ensures.after ∙ rw (sym c.is_between-sending.ensures ∙ c.if-sending.false)

@@ -6,9 +6,11 @@ pub returns : goal.returns
 unfolding encode
 returns c =
     rw (
-      c.high_byte.ensures,
-      c.low_byte.ensures,
+      c.copy_from_slice-3.ensures.after,
+      c.copy_from_slice-2.ensures.after,
+      c.copy_from_slice.ensures.after,
+      c.u64_bytes.ensures,
+      c.u32_bytes.ensures,
+      c.u16_bytes.ensures,
       c.car_bytes-bytes.ensures,
-      c.u64_bytes-energy.ensures,
-      c.u32_bytes-age.ensures,
     )

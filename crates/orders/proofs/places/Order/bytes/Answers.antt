@@ -4,4 +4,12 @@ use Rattle.orders.proofs.places.Order.bytes.Goals as goal
 
 pub returns : goal.returns
 unfolding order_bytes
-returns c = rw (c.u32_bytes-watts.ensures, c.u32_bytes-last.ensures, c.u32_bytes-first.ensures, c.u32_bytes-number.ensures)
+returns c =
+    rw (
+      c.copy_from_slice.ensures.after,
+      c.as_flattened.ensures.value,
+      c.u32_bytes-4.ensures,
+      c.u32_bytes-3.ensures,
+      c.u32_bytes-2.ensures,
+      c.u32_bytes.ensures,
+    )
