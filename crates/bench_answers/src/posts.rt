@@ -14,6 +14,7 @@ pub(crate) fn leads_of(number: u32) -> u8
     number.min(MOST_LEADS) as u8
 }
 
+// Kept: the numbers that the post's two calls return, which C gets too (`setup_of`, `tick_of`).
 // Setup on the beginning of the buffer, as much of it as that many leads ask for.
 pub(crate) fn set_up(numbers: SetupNumbers, state: &mut [u8]) -> u32
     requires { length state.old ≡ state_room }

@@ -63,6 +63,7 @@ fn write_done(output: &[u8], text: &mut [u8]) -> usize
 }
 
 // An answer's line over the beginning of the text; one that does not fit is not written. Returns how many characters were.
+// Kept: 0 for one that does not fit, as the definition `written_of` has it.
 pub fn write_answer(answer: Answer<'_>, text: &mut [u8]) -> usize
     ensures { ◌≡◌ {A = Written} (record { count = result; text = text.new })
         (written_of (answer_text answer.entry) text.old) }

@@ -101,3 +101,12 @@ up_to_at (suc n) f t k h = go (at_or_past k (suc n) h) (up_to_at n f (and_r (f (
     go : (suc n ≡ k) ⊎ (suc k ≤ suc n) → (k ≤ n → T (f k)) → T (f k)
     go (inl e) r = subst (λ (m : ℕ). T (f m)) e (and_l (f (suc n)) (up_to n f) t)
     go (inr g) r = r (omega arith)
+
+-- what the last arm of a `match` knows that has one for each number below n
+abbrev pub NoneBelow : ℕ → ℕ → Type 0
+NoneBelow zero x = Unit
+NoneBelow (suc n) x = NoneBelow n x × (x ≡ n → ⊥)
+
+pub none_below : (n x : ℕ) → NoneBelow n x → n ≤ x
+none_below zero x r = omega arith
+none_below (suc n) x r = let b : n ≤ x = none_below n x r.0 in let d : x ≡ n → ⊥ = r.1 in omega arith

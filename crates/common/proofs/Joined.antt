@@ -6,9 +6,10 @@ use Prim.Native.Nat.{ℕ, zero, suc, ◌+◌, ◌-◌, ◌*◌, ◌≤◌, ◌<�
 use native.Mathlib.Nat.{mul-zero, mul-suc, add-zero, add_assoc, add-sub_cancel_left, le_of_suc-le-suc, eq-or-lt_of_le, mul-le-mul_left}
 use native.Mathlib.Numerals.{add-one}
 use native.Mathlib.Omega.{arith}
-use lib.ListN.{length, take, drop, length-append, length-drop, take-append-drop, drop_of_length-le}
+use lib.ListN.{length, take, drop, length-append, length-take, length-drop, take-append-drop, drop_of_length-le}
 use lib.Seq.{take_at, drop_at, drop-drop, length-take-le, take-append-le, drop-append-le, take_all}
 use Rattle.common.specs.Parts.{part, joined}
+use Rattle.common.proofs.Copied.{copied_all}
 
 -- record i as the code cuts it out, from the place where it begins
 pub cut :
@@ -87,6 +88,23 @@ module _ (size : ℕ) (F : ℕ → List ℕ) (sized : (k : ℕ) → length (F k)
     filled_written i at room now p h g ea er ep before =
         let more = filled_more i at room now p h ea er ep before.1 in
         (ap length more ∙ filled_length (i + 1) h g, more)
+
+    -- the same where p is copied from w
+    pub filled_copy :
+        (i at room : ℕ) (now w p : List ℕ)
+        → head ≤ length bytes
+        → head + size * (i + 1) ≤ length bytes
+        → at ≡ head + size * i
+        → room ≡ size
+        → w ≡ F i
+        → Filling head size F bytes now i
+        → p ≡ take (length w) w ++ drop (length w) (take room (drop at now))
+        → Filling head size F bytes (take at now ++ (p ++ drop room (drop at now))) (i + 1)
+    filled_copy i at room now w p h g ea er ew before ep =
+        let long : length w ≡ size = ap length ew ∙ sized i in
+        let short : length (take room (drop at now)) ≤ length w = omega (arith, length-take room (drop at now)) in
+        let whole : p ≡ F i = copied_all w (take room (drop at now)) p ep short ∙ ew in
+        filled_written i at room now p h g ea er whole before
 
     pub filled_all :
         (n i : ℕ) (now : List ℕ)

@@ -10,6 +10,7 @@ ghost use Rattle.common.specs.Texts.{digit_value, number_in};
 
 pub use refusals::{Numbered, answered, unless};
 
+// Kept: two comparisons, as the rule `between` has them; `contains` of a range is no plainer, and asks `partial_cmp` for each end.
 pub fn is_between(first: u32, last: u32, number: u32) -> bool
     ensures { result ≡ between first last number }
 {
@@ -17,6 +18,7 @@ pub fn is_between(first: u32, last: u32, number: u32) -> bool
 }
 
 // The value of a hex digit in either case, 16 for a character that is none.
+// Kept: 16 and no `Option`, as the definition `digit_value` has it, with which every base is compared.
 pub fn digit_value(character: u8) -> u8
     ensures { result ≡ digit_value character }
 {

@@ -2,14 +2,14 @@
 use mathlib.Core.Bool.{Bool, true, false, cond}
 use mathlib.Core.List.{List, ◌∷◌}
 use mathlib.Core.Path.{◌≡◌, refl, sym, ap, ◌∙◌}
-use Prim.Native.Nat.{ℕ, zero, suc, ◌+◌, ◌-◌, ◌*◌, ◌<◌, ◌≤◌, min}
+use Prim.Native.Nat.{ℕ, zero, suc, ◌+◌, ◌-◌, ◌*◌, ◌/◌, ◌<◌, ◌≤◌, min}
 use native.Mathlib.Omega.{arith}
 use lib.ListN.{length, get_or, take, drop}
 use lib.Seq.{drop-drop}
 use Rattle.std.specs.Prelude.{Some, option_map}
 use Rattle.std.specs.Simd.{first_chunks}
-use Rattle.frames.specs.Records.{record_size, record_at, is_frame, last_of}
-use Rattle.frames.specs.Heard.{battery_in, time_in, status_in}
+use Rattle.frames.specs.Records.{record_size, record_at, is_frame, last_of, newest_record}
+use Rattle.frames.specs.Heard.{battery_in, time_in, status_in, newest_battery, newest_time, newest_status, newest_frames}
 use Rattle.frames.specs.declared.newest.HeardFrames.{HeardFrames}
 
 abbrev pub heard_among : List ℕ → ℕ → HeardFrames
@@ -88,3 +88,8 @@ all_passed s count (suc left) many n e within ended = go (many - n) refl (ended 
     go : (more : ℕ) → many - n ≡ more → length (first_chunks record_size more (drop (record_size * n) s)) ≡ 0 → n ≡ min count many
     go zero h none = omega (arith, h)
     go (suc more) h none = absurd (omega (arith, none))
+
+-- what one pass finds among the records that the count takes in is the newest of each kind
+pub found_newest : (count : ℕ) (s : List ℕ) → heard_among s (min count (length s / record_size)) ≡ newest_frames count s
+unfolding newest_record newest_battery newest_time newest_status
+found_newest count s = refl

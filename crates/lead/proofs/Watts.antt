@@ -3,9 +3,13 @@ use mathlib.Core.Bool.{Bool, true, false}
 use mathlib.Core.Path.{◌≡◌, refl, sym, ◌∙◌}
 use Prim.Native.Nat.{ℕ, zero, suc, ◌*◌, ◌/◌, ◌≤◌, ◌<◌, min}
 use native.Mathlib.Nat.{mul_comm, div-zero, div-le_of_le-mul, le-div_iff_mul-le, mul-div_cancel, min-eq_left}
+use native.Mathlib.Nat.{mul-le-mul}
 use native.Mathlib.Omega.{arith}
 use lib.Dec.{leb}
 use borrow.Author.Tests.{leb-true, leb-false}
+
+pub watts_fit : (amperes volts : ℕ) → amperes ≤ 255 → volts ≤ 65535 → amperes * volts < 4294967296
+watts_fit amperes volts a v = let h : amperes * volts ≤ 255 * 65535 = mul-le-mul a v in omega arith
 
 module _ (amperes volts level : ℕ) where
   met : (volts ≡ 0 → ⊥) → amperes * volts ≤ level → amperes ≡ min (amperes * volts) level / volts

@@ -26,6 +26,7 @@ fn carried(amperes: u8, volts: u16, level: u32) -> u8
     (level / u32::from(volts)) as u8
 }
 
+// Kept: ratings and level go side by side here and above: setup fixes the one, each tick the other, and a struct of both would be made for a call.
 impl Lead {
     #[tactic(auto, unfolding(crate::specs::Power::wanted))]
     fn wanted(self, ratings: Ratings) -> u8

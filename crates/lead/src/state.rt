@@ -18,6 +18,7 @@ pub struct Ratings {
 }
 
 // Energy is what was commanded since the start, in watt-ticks; command is in amperes; the threshold voltage is 0 until it is kept.
+// Kept: that 0 and no `Option`, as any two bytes are read for it and given back (`decode`, `good_threshold`).
 #[derive(Clone, Copy)]
 pub struct Lead {
     pub stage: Stage,

@@ -176,6 +176,7 @@ impl OutputRecord {
     }
 
     // Of a turn whose lead has its command, at the tick's level.
+    // Kept: a slice and its length, as with `put` of receiver: a part of a lent slice that is made an array leaves no fact of the whole.
     pub fn write(ratings: Ratings, level: u32, turn: Turn, output: &mut [u8])
         requires { length output.old ≡ output_size }
         ensures { output.new ≡ output_of ratings level turn.lock turn.reading turn.lead }

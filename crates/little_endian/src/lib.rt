@@ -6,7 +6,7 @@ ghost use Rattle.std.specs.Prelude.{◌≡◌, ◌+◌, ◌≤◌, length};
 ghost use Rattle.little_endian.specs.Numbers.{u16_at, u32_at, u64_at, u16_bytes, u32_bytes, u64_bytes};
 ghost use Rattle.little_endian.specs.Flags.{flag_of};
 
-// Kept: a function for each width, here and below. Its body is one call of the library, so a trait over the three would be longer.
+// Kept: a function for each width, here and below. Its body is one call of the library on its bytes, so a trait over the three would be longer.
 pub fn u16_at(s: &[u8], at: usize) -> u16
     requires { at + 2 ≤ length s.now }
     ensures { result ≡ u16_at s.now at }

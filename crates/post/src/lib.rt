@@ -24,7 +24,7 @@ pub use lengths::{
 use setup_numbers::{SetupErrors, SetupNumbers};
 use ticks::try_tick;
 
-// Kept: numbers, and slices of any length, as C calls these two functions (`post_c`).
+// Kept: numbers, one parameter each, and slices of any length, as C calls these two functions (`post_c`).
 
 // Writes a fresh state. The resistance is the cable's, as its float's bits; the errors are the meters', in tenths. Returns 0, or the
 // number of the first question that gets a no, and then nothing has changed.

@@ -5,6 +5,7 @@ ghost use Rattle.std.specs.Prelude.{◌≡◌};
 ghost use Rattle.post.specs.Heads.{head_from};
 ghost use Rattle.post.specs.Calls.{SetUp, setup_of, Ticked, tick_of};
 
+// Kept: a number a parameter, as C calls this function.
 // Writes a fresh state. The resistance is the cable's, as its float's bits; the errors are the meters', in tenths. Returns 0, or the
 // number of the first question that gets a no, and then nothing has changed.
 #[unsafe(no_mangle)]

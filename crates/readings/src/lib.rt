@@ -78,7 +78,7 @@ impl UpperEnd {
     pub fn is_at_most(self, most: Tenths) -> bool
         ensures { result ≡ at_most self most }
     {
-        // Kept: an upper end and tenths are two types, which no derived order compares.
+        // Kept, here and below: an upper end and what it is compared with are two types, which no derived order compares.
         self.0 <= u32::from(most.0)
     }
 
@@ -128,6 +128,8 @@ impl Measurement {
     }
 }
 
+// Kept: that the resistance is allowed stands in this contract and in those above it, as a head has any four bytes for it (`head_of`), of which
+// refusals 4 and 6 ask first.
 // `None` is a bad reading. The resistance is the cable's, as the float's bits that setup is given and the state keeps.
 pub fn judge(volts: Option<f32>, amperes: Option<f32>, resistance: u32) -> Option<Measured>
     requires { allowed_resistance resistance ≡ true }

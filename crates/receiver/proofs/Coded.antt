@@ -1,5 +1,5 @@
 -- What the code's copies and stores leave, as the rules say it. Assumes nothing.
-use mathlib.Core.Bool.{false, not, ◌&&◌, ◌||◌}
+use mathlib.Core.Bool.{true, false, not, ◌&&◌, ◌||◌}
 use mathlib.Core.List.{List, [], ◌∷◌, ◌++◌, append_assoc}
 use mathlib.Core.Path.{◌≡◌, refl, sym, ◌∙◌}
 use Prim.Native.Nat.{ℕ, zero, suc, ◌+◌, ◌-◌, ◌%◌, ◌≤◌, ◌<◌}
@@ -8,12 +8,12 @@ use native.Mathlib.Omega.{arith}
 use lib.Bits.{bit_and}
 use Rattle.std.proofs.lemmas.Nat.{and_le_l}
 use lib.Dec.{eqb}
-use lib.ListN.{length, take, drop, set}
-use lib.Seq.{sets, sets-eq, drop-drop}
+use lib.ListN.{length, take, drop, set, length-set}
+use lib.Seq.{sets, sets-eq, length-sets, drop-drop}
 use Rattle.std.specs.Prelude.{Some, None, slice_get}
 use Rattle.std.proofs.lemmas.Option.{none-some, same_Some}
 use Rattle.little_endian.specs.Flags.{bit_at}
-use Rattle.receiver.specs.Registers.{status_register, mailbox_count, frame_size, turn_place, receiver_size, status, mask, mailbox_place, mailbox, turn, full, status_of, full_from, waiting}
+use Rattle.receiver.specs.Registers.{status_register, overrun_register, mailbox_count, frame_size, turn_place, receiver_size, status, mask, mailbox_place, mailbox, turn, full, status_of, full_from, waiting}
 use Rattle.receiver.specs.Chip.{filled, arrived, emptied, by_first, drained, drained_frame, is_up, some}
 use Rattle.receiver.proofs.Bits.{and_bit, some_bit}
 
@@ -31,6 +31,22 @@ copied_in s frame p k low long sized e =
     let inside : at + length frame ≤ length s = omega arith in
     let size : at + frame_size ≡ at + length frame = omega arith in
     rw (e, add-sub_cancel_left at frame_size, drop-drop, size, ← append_assoc) (sym (sets-eq frame s at inside))
+
+-- and the turn is still there
+pub turn_there :
+    (s frame p : List ℕ) (k v : ℕ)
+    → k < mailbox_count
+    → length s ≡ receiver_size
+    → length frame ≡ frame_size
+    → p ≡ frame
+    → turn_place
+    < length (set (take (mailbox_place k) s ++ (p ++ drop (mailbox_place k + frame_size - mailbox_place k) (drop (mailbox_place k) s))) status_register v)
+turn_there s frame p k v low long sized e = rw (length-set, copied_in s frame p k low long sized e, length-sets, long) (omega arith)
+
+-- a frame that arrives at a full one
+pub frame_lost : (s frame : List ℕ) → full s (turn s) ≡ true → set s overrun_register 1 ≡ arrived s frame
+unfolding arrived
+frame_lost s frame e = rw e
 
 -- a frame that arrives at an empty mailbox
 pub frame_kept :

@@ -24,6 +24,7 @@ pub(crate) fn value_read(receiver: &Receiver, number: u32) -> u8
     }
 }
 
+// Kept: a `match` on the register's number, as the request has a sentence for each register that is written.
 pub(crate) fn write(receiver: &mut Receiver, number: u32, value: u8)
     ensures { receiver.new ≡ written receiver.old number value }
 {

@@ -4,9 +4,8 @@ use Prim.Native.Nat.{◌/◌}
 use native.Mathlib.Numerals.{add-one}
 use native.Mathlib.Omega.{arith}
 use lib.ListN.{length, length-append}
-use Rattle.frames.specs.Records.{record_size, newest_record}
-use Rattle.frames.specs.Heard.{newest_battery, newest_time, newest_status}
-use Rattle.frames.proofs.Passed.{heard_among, next_record, heard_further, all_passed}
+use Rattle.frames.specs.Records.{record_size}
+use Rattle.frames.proofs.Passed.{heard_among, next_record, heard_further, all_passed, found_newest}
 use Rattle.frames.proofs.newest.HeardFrames.newest.Goals as goal
 
 pub loop-frame-preserved : goal.loop-frame-preserved
@@ -27,11 +26,10 @@ loop-frame-preserved c =
     }
 
 pub returns : goal.returns
-unfolding newest_battery newest_time newest_status newest_record
 returns c =
     let l = c.loop-frame in
     let s = c.args.records.now in
     let n = length l.yielded in
     let passed = all_passed s c.args.count _ (length s / record_size) n l.invariant.to_take l.invariant.passed
     (λ some. sym (ap length l.invariant.rest) ∙ (c.in-None.ensures.steps some).0) in
-    l.invariant.heard ∙ ap (heard_among s) passed
+    l.invariant.heard ∙ ap (heard_among s) passed ∙ found_newest c.args.count s
