@@ -2,17 +2,13 @@
 use Rattle.std.specs.Prelude.{Bool, cond, ◌&&◌, Option, None, List, [], ◌∷◌, ℕ, zero, suc, ◌+◌, ◌*◌, ◌/◌, ◌%◌, ltb, eqb, length}
 use Rattle.common.specs.Texts.{digit_value, all_digits, number_in}
 
--- digits of a base only, in either case, and the number at most that much; leading zeros count for nothing
-abbrev pub number_of : ℕ → ℕ → List ℕ → Option ℕ
-number_of base most s = number_in base most s
-
 -- "Setup's first three numbers are decimal, at most 65,535"; 2026-08: "the two errors in decimal, at most 65,535"
 unfoldable pub decimal_of : List ℕ → Option ℕ
-decimal_of s = cond (eqb (length s) 0) None (number_of 10 65535 s)
+decimal_of s = cond (eqb (length s) 0) None (number_in 10 65535 s)
 
 -- "resistance bits (8 hex digits, as one number, highest first)": it always fits 32 bits
 unfoldable pub bits_of : List ℕ → Option ℕ
-bits_of s = cond (eqb (length s) 8) (number_of 16 4294967295 s) None
+bits_of s = cond (eqb (length s) 8) (number_in 16 4294967295 s) None
 
 -- "hex comes in pairs of digits", each a byte
 unfoldable pub is_pairs : List ℕ → Bool

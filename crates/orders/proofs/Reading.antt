@@ -1,16 +1,16 @@
 -- A text read line by line, and what the call makes of its answer. Assumes nothing.
-use mathlib.Core.Bool.{Bool, true, false, cond}
+use mathlib.Core.Bool.{cond}
 use mathlib.Core.List.{List, [], ◌∷◌}
 use mathlib.Core.Path.{◌≡◌, refl, sym, ap, ◌∙◌}
 use Prim.Native.Nat.{ℕ, ◌+◌, ◌<◌}
 use lib.ListN.{length, get_or, drop}
-use native.Mathlib.Omega.{arith}
 use borrow.Author.Tests.{eq-eqb, eqb-true}
 use Rattle.std.specs.Prelude.{Result, Ok, Err, ⊤}
 use Rattle.std.proofs.lemmas.List.{at_drop_more}
 use Rattle.orders.specs.Places.{place_count, orders_length, orders_bytes}
 use Rattle.orders.specs.Refusals.{number}
 use Rattle.common.specs.Refusals.{number_of}
+use Rattle.common.proofs.Asked.{yes, turned_down}
 use Rattle.orders.specs.Lines.{lines_of}
 use Rattle.orders.specs.Scans.{refused_at, answer_in}
 use Rattle.orders.specs.declared.refusals.Refusal.{Refusal}
@@ -27,15 +27,6 @@ pub line_turn :
     → read_from kept (drop n lines) ≡ read_from kept (line ∷ drop (n + 1) lines)
 line_turn kept lines n line h =
     at_drop_more (read_from kept) lines n line h.0 ∙ ap (λ x. read_from kept (x ∷ drop (n + 1) lines)) (sym h.1)
-
--- a question that is met, and one that is not
-pub met : {E : Type 0} (b : Bool) (e : E) (done : ⊤) → Ok done ≡ cond b (Ok (tt {0})) (Err e) → b ≡ true
-met true e done h = refl
-met false e done h = absurd (let z : ◌≡◌ {A = ℕ} 0 1 = cc in omega arith)
-
-pub not_met : {E : Type 0} (b : Bool) (e r : E) → Err r ≡ cond b (Ok (tt {0})) (Err e) → (b ≡ false) × (r ≡ e)
-not_met true e r h = absurd (let z : ◌≡◌ {A = ℕ} 0 1 = cc in omega arith)
-not_met false e r h = (refl, cc)
 
 module _ (text orders : List ℕ) where
   taken_is :
@@ -54,7 +45,7 @@ module _ (text orders : List ℕ) where
       → ◌≡◌ {A = Taken} (record { number = number_of number outcome; orders = orders }) (taken_of text orders)
   unfolding taken_of
   taken_short outcome r asked told =
-      let no = not_met (eqb (length orders) orders_length) OrdersLength r asked in
+      let no = turned_down (eqb (length orders) orders_length) OrdersLength asked refl in
       let n : number_of number outcome ≡ 43 = ap (number_of number) (told ∙ ap Err no.1) in
       rw (n, no.0)
 
@@ -65,7 +56,7 @@ module _ (text orders : List ℕ) where
       (empty : begun ≡ [])
       (known : answer_in kept read ≡ read_from begun (lines_of text)) where
     right : length orders ≡ orders_length
-    right = eqb-true (length orders) orders_length (met (eqb (length orders) orders_length) e done asked)
+    right = eqb-true (length orders) orders_length (yes (eqb (length orders) orders_length) e asked refl)
 
     answered : answer_in kept read ≡ answer_to text
     unfolding answer_to

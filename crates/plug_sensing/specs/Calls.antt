@@ -1,6 +1,6 @@
 -- Document 02, 2026-07: the host's call, the number that it returns, and every byte that it leaves. Definitions only.
-use Rattle.std.specs.Prelude.{Bool, false, ◌&&◌, List, [], ◌∷◌, ℕ, eqb, leb, length, Result, ⊤}
-use Rattle.common.specs.Refusals.{Asked, asks, refusal_of, done_unless, number_of}
+use Rattle.std.specs.Prelude.{Bool, false, ◌&&◌, List, [], ◌∷◌, ℕ, eqb, leb, length}
+use Rattle.common.specs.Refusals.{Asked, asks, refusal_of, done_unless}
 use Rattle.little_endian.specs.Numbers.{byte_at}
 use Rattle.little_endian.specs.Flags.{bit_value}
 use Rattle.plug_sensing.specs.Sensing.{sensed}
@@ -35,10 +35,6 @@ abbrev pub number : Refusal → ℕ
 number State = 6
 number Room = 8
 number Millivolts = 31
-
--- the number that the host is told: 0 where nothing is refused
-abbrev pub told : Result ⊤ Refusal → ℕ
-told = number_of number
 
 -- what the call asks before it does anything, in the order of asking
 unfoldable pub rows : List ℕ → ℕ → List ℕ → List Asked

@@ -6,7 +6,8 @@
 ghost use Rattle.std.specs.Prelude.{◌≡◌};
 ghost use Rattle.std.proofs.Common.{rules};
 ghost use Rattle.plug_sensing.specs.Sensing.{sensed};
-ghost use Rattle.plug_sensing.specs.Calls.{Answer, answer, number, told};
+ghost use Rattle.plug_sensing.specs.Calls.{Answer, answer, number};
+ghost use Rattle.common.specs.Refusals.{number_of};
 
 use common::{Numbered, answered, is_between, unless};
 
@@ -73,7 +74,7 @@ pub fn sense(was_lowest: bool, millivolts: u32) -> Sensed
 
 // The call below, with its reason where it is refused.
 fn tell_plug(state: &mut [u8], millivolts: u32, plug: &mut [u8]) -> Result<(), Refusal>
-    ensures { ◌≡◌ {A = Answer} (record { number = told result; state = state.new; plug = plug.new })
+    ensures { ◌≡◌ {A = Answer} (record { number = number_of number result; state = state.new; plug = plug.new })
         (answer state.old millivolts plug.old) }
 {
     unless(millivolts <= LARGEST_VALUE, Refusal::Millivolts)?;

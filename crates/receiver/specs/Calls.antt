@@ -37,7 +37,7 @@ number Frame = 7
 number Room = 8
 number Register = 30
 
--- the number that the host is told: 0 where nothing is refused
+-- the number that the host is told, 0 where nothing is refused; `number` is a register's in the contracts that say it
 abbrev pub told : Result ⊤ Refusal → ℕ
 told = number_of number
 

@@ -9,7 +9,8 @@ use Rattle.lead.specs.Leads.{fresh}
 use Rattle.post.specs.Heads.{head_from, state_length}
 use Rattle.post.specs.Rules.{post_bytes}
 use Rattle.post.specs.declared.head.Head.{Head}
-use Rattle.post.proofs.Asked.{handed_on, yes, no, never_0}
+use Rattle.common.proofs.Asked.{handed_on, yes, no}
+use Rattle.post.proofs.Numbers.{never_0}
 use Rattle.post.proofs.Returned.{by_head, by_length, setup_done, setup_refused}
 use Rattle.post.proofs.fresh.try_setup.Goals as goal
 

@@ -3,7 +3,7 @@ use mathlib.Core.Path.{sym, ap, ◌∙◌}
 use Rattle.common.proofs.Refused.{row_asked}
 use Rattle.common.specs.Refusals.{number_of}
 use Rattle.post.specs.Refusals.{number, head_rows}
-use Rattle.post.proofs.Asked.{yes, no}
+use Rattle.common.proofs.Asked.{yes, no}
 use Rattle.post.proofs.head.ask_head.Goals as goal
 
 pub returns-in_err-unless : goal.returns-in_err-unless

@@ -3,7 +3,7 @@ use mathlib.Core.Path.{ap, ◌∙◌}
 use Rattle.common.specs.Refusals.{number_of}
 use Rattle.common.proofs.Refused.{row_asked}
 use Rattle.post.specs.Refusals.{number, input_rows}
-use Rattle.post.proofs.Asked.{yes, no}
+use Rattle.common.proofs.Asked.{yes, no}
 use Rattle.post.proofs.refusals.ask_input.Goals as goal
 
 pub returns-in_err-unless : goal.returns-in_err-unless

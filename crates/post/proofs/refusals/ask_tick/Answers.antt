@@ -3,7 +3,7 @@ use mathlib.Core.Path.{sym, ◌∙◌}
 use native.Mathlib.Omega.{arith}
 use Rattle.common.proofs.Bools.{holds}
 use Rattle.post.specs.Refusals.{tick_rows}
-use Rattle.post.proofs.Asked.{yes, no}
+use Rattle.common.proofs.Asked.{yes, no}
 use Rattle.post.proofs.Taken.{post_length}
 use Rattle.post.proofs.refusals.ask_tick.Goals as goal
 

@@ -2,7 +2,8 @@
 use mathlib.Core.Path.{refl, sym, ap, ◌∙◌}
 use Rattle.common.specs.Refusals.{number_of}
 use Rattle.post.specs.Refusals.{number}
-use Rattle.post.proofs.Asked.{handed_on, never_0}
+use Rattle.common.proofs.Asked.{handed_on}
+use Rattle.post.proofs.Numbers.{never_0}
 use Rattle.post.proofs.Returned.{tick_done, tick_refused}
 use Rattle.post.proofs.ticks.try_tick.Goals as goal
 

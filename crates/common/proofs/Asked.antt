@@ -1,12 +1,8 @@
 -- A question that a call asks with `unless(..)?`: what is known where the call goes on, and where it stops. Assumes nothing.
 use mathlib.Core.Bool.{Bool, true, false, cond}
 use mathlib.Core.Path.{◌≡◌, refl, sym, subst, ap, ◌∙◌}
-use native.Mathlib.Omega.{arith}
 use Rattle.std.specs.Prelude.{Result, Ok, Err, ⊤, MatchResult}
 use Rattle.std.specs.Result.{IsErrAnd}
-use Rattle.post.specs.Refusals.{number}
-use Rattle.post.specs.declared.names.Refusal.{Refusal}
-use Rattle.post.specs.declared.names.Refusal.TheVariants.{Leads, RatedVolts, RatedAmperes, CableResistance, MeterError, StateLength, State, InputLength, OutputLength, Input}
 
 module _ {R : Type 0} where
   -- a call that stops hands on the refusal that it was handed
@@ -38,14 +34,6 @@ module _ {R : Type 0} where
         let a : (met ≡ false) × (r ≡ refusal) = answered (Err r) was in
         (a.0, handed_on out stopped ∙ ap Err a.1)
 
-pub never_0 : (refusal : Refusal) → number refusal ≡ 0 → ⊥
-never_0 Leads e = omega arith
-never_0 RatedVolts e = omega arith
-never_0 RatedAmperes e = omega arith
-never_0 CableResistance e = omega arith
-never_0 MeterError e = omega arith
-never_0 StateLength e = omega arith
-never_0 State e = omega arith
-never_0 InputLength e = omega arith
-never_0 OutputLength e = omega arith
-never_0 Input e = omega arith
+    -- the answer was no, where the question alone is looked at
+    pub turned_down : {r : R} → asked ≡ Err r → (met ≡ false) × (r ≡ refusal)
+    turned_down {r = r} was = answered (Err r) was
