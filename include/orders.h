@@ -50,13 +50,14 @@
  *
  * What the calls need:
  * - Alignment: none.
- * - Stack: less than 2 kB (measured: 1,128 bytes), as a text is read into 1,024 bytes of its own.
- *   Where the C library is bound at its first call, that call takes more.
+ * - Stack: less than 2 kB (seen in the archive: 1,152 bytes, and what memcpy takes), as a text is
+ *   read into 1,024 bytes of its own. Where the C library is bound at its first call, that call
+ *   takes more.
  * - Threads: the library has no memory of its own, so calls on different buffers may run at once.
  * - Time: every call ends, at the first line that is refused or at the text's end. A text of 64
  *   lines of the greatest length takes some microseconds.
  * - The archive is one ELF object for an x86-64 processor of level v2 (SSE4.2, POPCNT) or above,
- *   with position-independent code and System V calls. From elsewhere it needs memcpy and memset.
+ *   with position-independent code and System V calls. From elsewhere it needs memcpy.
  */
 #ifndef ORDERS_H_INCLUDED
 #define ORDERS_H_INCLUDED

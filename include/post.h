@@ -25,7 +25,7 @@
  *
  * What the calls need:
  * - Alignment: none. A buffer may begin at any address.
- * - Stack: less than 1 kB (seen in the archive: 808 bytes in a tick, 56 in setup, and what memcpy
+ * - Stack: less than 1 kB (seen in the archive: 760 bytes in a tick, 40 in setup, and what memcpy
  *   and memset take). Where the C library is bound at its first call, that call takes more; 16 kB
  *   are enough for a thread.
  * - Threads: the library has no memory of its own, so calls on different buffers may run at once.

@@ -3,7 +3,7 @@
 // doing; here is reading and writing.
 #![tactic(auto)]
 
-use bench_answers::{Carried, LINE, Post};
+use bench_answers::{Begun, Carried, LINE, Post};
 use post::MOST_STATE;
 use std::io::{self, Print, Read, Stdin, Stdout};
 
@@ -25,11 +25,11 @@ impl Bench {
             leads: 0,
             state: [0; MOST_STATE],
         };
-        let carried = Carried {
-            begun: 0,
+        let begun = Begun {
+            count: 0,
             line: [0; LINE],
-            post,
         };
+        let carried = Carried { begun, post };
         Bench {
             carried,
             text: [0; TEXT],

@@ -88,13 +88,13 @@ module _
     rest = drop at.read piece
 
     short : length g.begun ≤ line_room
-    short = omega (arith, length-take carried.begun carried.line, carried.begun_fits)
+    short = omega (arith, length-take carried.begun.count carried.begun.line, carried.begun.fits)
 
     pub at_end :
         (longer : Carried)
         → longer.post ≡ carried.post
         → length rest ≤ to_line_feed rest
-        → take longer.begun longer.line ≡ joins (take carried.begun carried.line) (take (length piece - at.read) rest)
+        → take longer.begun.count longer.begun.line ≡ joins (take carried.begun.count carried.begun.line) (take (length piece - at.read) rest)
         → comes_to longer (record { read = length piece; count = at.count }) piece text ≡ comes_to carried at piece text
     unfolding comes_to
     at_end longer same none put =
@@ -104,14 +104,14 @@ module _
         (line : List ℕ) (n begun : ℕ)
         (found : n ≡ to_line_feed rest)
         (before : n < length rest)
-        (put : take begun line ≡ joins (take carried.begun carried.line) (take n rest))
+        (put : take begun line ≡ joins (take carried.begun.count carried.begun.line) (take n rest))
       where
         -- the answer to the line
         abbrev a : Response
         a = answer_to (kept_in carried.post.leads carried.post.state) (take begun line)
 
         module _
-            (left : Carried) (none : left.begun ≡ 0) (count : ℕ) (mid dst behind : List ℕ)
+            (left : Carried) (none : left.begun.count ≡ 0) (count : ℕ) (mid dst behind : List ℕ)
             (room : answer_room ≤ length dst)
             (in-text : at.count ≤ length text)
             (answered : ◌≡◌ {A = Left}
@@ -154,23 +154,23 @@ unfolding comes_to
 begins carried piece text = refl
 
 -- the last line
-pub last_none : (carried : Carried) (text : List ℕ) → carried.begun ≡ 0 → take 0 text ≡ last_text (going_in carried)
+pub last_none : (carried : Carried) (text : List ℕ) → carried.begun.count ≡ 0 → take 0 text ≡ last_text (going_in carried)
 unfolding last_text
 last_none carried text e = rw e
 
 pub last_answered :
     (carried : Carried) (text : List ℕ) {n : ℕ} {post : Kept} {mid : List ℕ}
-    → (carried.begun ≡ 0 → ⊥)
-    → carried.begun ≤ length carried.line
+    → (carried.begun.count ≡ 0 → ⊥)
+    → carried.begun.count ≤ length carried.begun.line
     → answer_room ≤ length text
     → ◌≡◌ {A = Left} (record { post = post; written = record { count = n; text = mid } })
-    (leaves (answer_to (kept_in carried.post.leads carried.post.state) (take carried.begun carried.line)) text)
+    (leaves (answer_to (kept_in carried.post.leads carried.post.state) (take carried.begun.count carried.begun.line)) text)
     → (n ≤ length text) × (take n mid ≡ last_text (going_in carried))
 unfolding last_text kept_in
 last_answered carried text {n = n} some h room answered =
-    let line : List ℕ = take carried.begun carried.line in
+    let line : List ℕ = take carried.begun.count carried.begun.line in
     let t : List ℕ = (answer_to (kept_in carried.post.leads carried.post.state) line).text in
     let fits : length t ≤ length text = omega (arith, answer_fits (kept_in carried.post.leads carried.post.state) carried.post.few line, room) in
     let whole = written_whole t text fits (ap (λ (l : Left). l.written) answered) in
-    let long : length line ≡ carried.begun = length-take-le carried.begun carried.line h in
+    let long : length line ≡ carried.begun.count = length-take-le carried.begun.count carried.begun.line h in
     (omega (arith, whole.0, fits), rw (ne_eqb (length line) 0 (λ e. some (sym long ∙ e))) whole.2)

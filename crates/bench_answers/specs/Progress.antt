@@ -7,7 +7,7 @@ use Rattle.bench_answers.specs.declared.pieces.Progress.{Progress}
 
 -- what goes on: the post kept in one buffer, the line begun in the other
 abbrev pub going_in : Carried → Going
-going_in carried = record { post = kept_in carried.post.leads carried.post.state; begun = take carried.begun carried.line }
+going_in carried = record { post = kept_in carried.post.leads carried.post.state; begun = take carried.begun.count carried.begun.line }
 
 -- what a piece comes to: the text written so far, and then what its rest comes to
 unfoldable pub comes_to : Carried → Progress → List ℕ → List ℕ → Fed

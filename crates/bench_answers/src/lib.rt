@@ -7,4 +7,4 @@ mod pieces;
 mod posts;
 
 pub use answers::Post;
-pub use pieces::{ANSWER, Carried, LINE, Progress};
+pub use pieces::{ANSWER, Begun, Carried, LINE, Progress};

@@ -17,14 +17,20 @@ pub const ANSWER: usize = 2 * MOST_OUTPUT + 3;
 
 const LINE_FEED: u8 = b'\n';
 
-// What goes on from one piece to the next: the line begun, of which so many characters are here, and the post.
+// A line begun: so many of its characters are here.
 // Kept: a count stands beside an array, as a rule of the project (no heap, fixed memory) needs it.
 #[derive(Drop)]
-pub struct Carried {
-    pub begun: usize,
+pub struct Begun {
+    pub count: usize,
     pub line: [u8; LINE],
+    pub ghost fits: { count ≤ line_room },
+}
+
+// What goes on from one piece to the next.
+#[derive(Drop)]
+pub struct Carried {
+    pub begun: Begun,
     pub post: Post,
-    pub ghost begun_fits: { begun ≤ line_room },
 }
 
 // How many characters of a piece have been read, and how many characters of answers are in the text buffer.
@@ -42,31 +48,29 @@ fn line_feed(characters: &[u8]) -> Option<usize>
     characters.iter().position(|&c| c == LINE_FEED)
 }
 
+impl Begun {
+    // Puts a part of the line behind what is there, as far as it goes in.
+    fn add(&mut self, part: &[u8])
+        ensures { take self.new.count self.new.line ≡ joins (take self.old.count self.old.line) part.now }
+    {
+        let here = self.count;
+        let more = part.len().min(LINE - here);
+        self.line[here..here + more].copy_from_slice(&part[..more]);
+        self.count += more;
+    }
+}
+
 impl Carried {
     ghost use Rattle.bench_answers.specs.Progress.{going_in, comes_to, Fits};
 
-    // Puts a part of the line behind what is there, as far as it goes in.
-    fn add(&mut self, part: &[u8])
-        ensures line { take self.new.begun self.new.line ≡ joins (take self.old.begun self.old.line) part.now }
-        ensures post { self.new.post ≡ self.old.post }
-    {
-        let begun = self.begun;
-        let count = part.len().min(LINE - begun);
-        self.line[begun..begun + count].copy_from_slice(&part[..count]);
-        self.begun += count;
-    }
-
-    // Answers the line begun. The post is copied out and back, as a struct with a ghost field cannot lend it beside the line.
+    // Answers the line begun.
     fn answer_line(&mut self, text: &mut [u8]) -> usize
         ensures answered { ◌≡◌ {A = Left}
             (record { post = (going_in self.new).post; written = record { count = result; text = text.new } })
             (leaves (answer_to (going_in self.old).post (going_in self.old).begun) text.old) }
-        ensures kept { (self.new.begun ≡ self.old.begun) × (self.new.line ≡ self.old.line) }
+        ensures kept { (self.new.begun.count ≡ self.old.begun.count) × (self.new.begun.line ≡ self.old.begun.line) }
     {
-        let mut post = self.post;
-        let written = post.answer(&self.line[..self.begun], text);
-        self.post = post;
-        written
+        self.post.answer(&self.begun.line[..self.begun.count], text)
     }
 
     // Reads on to the end of a line, and answers it, or to the end of the piece, and keeps the line begun.
@@ -78,15 +82,15 @@ impl Carried {
     {
         let rest = &piece[at.read..];
         let Some(length) = line_feed(rest) else {
-            self.add(rest);
+            self.begun.add(rest);
             return Progress {
                 read: piece.len(),
                 ..at
             };
         };
-        self.add(&rest[..length]);
+        self.begun.add(&rest[..length]);
         let written = self.answer_line(&mut text[at.count..]);
-        self.begun = 0;
+        self.begun.count = 0;
         Progress {
             read: at.read + length + 1,
             count: at.count + written,
@@ -115,9 +119,9 @@ impl Carried {
     pub fn finish(&mut self, text: &mut [u8]) -> usize
         requires { answer_room ≤ length text.old }
         ensures written { (result ≤ length text.old) × (take result text.new ≡ last_text (going_in self.old)) }
-        ensures kept { (self.new.begun ≡ self.old.begun) × (self.new.line ≡ self.old.line) }
+        ensures kept { (self.new.begun.count ≡ self.old.begun.count) × (self.new.begun.line ≡ self.old.begun.line) }
     {
-        if self.begun == 0 {
+        if self.begun.count == 0 {
             return 0;
         }
         self.answer_line(text)

@@ -16,7 +16,7 @@ use Rattle.common.proofs.Texts.{some_field}
 use Rattle.common.specs.Texts.{digit_value, is_digit, all_digits, push, fields_of}
 
 -- how many characters stand before the first tab
-abbrev tab_at : List ℕ → ℕ
+abbrev pub tab_at : List ℕ → ℕ
 tab_at s = position_or_len (λ c. eqb c 9) s
 
 cut_in : (s : List ℕ) → tab_at s < length s → fields_of s ≡ take (tab_at s) s ∷ fields_of (drop (suc (tab_at s)) s)
@@ -33,7 +33,7 @@ cut_in (c ∷ s) h = go (eqb c 9) (1 + tab_at s) (omega arith) h (λ x. cut_in s
     go true n e h k = refl
     go false n e h k = rw e (ap (push c) (k (omega arith)))
 
-cut_none : (s : List ℕ) → length s ≤ tab_at s → fields_of s ≡ s ∷ []
+pub cut_none : (s : List ℕ) → length s ≤ tab_at s → fields_of s ≡ s ∷ []
 cut_none [] h = refl
 cut_none (c ∷ s) h = go (eqb c 9) h (λ x. cut_none s x)
   where

@@ -1,16 +1,18 @@
 -- Hex in pairs of digits: the test of all digits, the byte of each pair, and bytes written one by one with 0 behind them. Assumes nothing.
-use mathlib.Core.Bool.{true, ◌&&◌}
+use mathlib.Core.Bool.{Bool, true, false, cond, ◌&&◌, ◌||◌}
 use mathlib.Core.List.{List, [], ◌∷◌, ◌++◌}
-use mathlib.Core.Path.{◌≡◌, refl, ap}
-use Prim.Native.Nat.{ℕ, zero, suc, ◌+◌, ◌*◌, ◌/◌, ◌%◌, ◌≤◌, ◌<◌}
+use mathlib.Core.Path.{◌≡◌, refl, sym, ap}
+use Prim.Native.Nat.{ℕ, zero, suc, ◌+◌, ◌-◌, ◌*◌, ◌/◌, ◌%◌, ◌≤◌, ◌<◌}
 use native.Mathlib.Numerals.{add-one}
 use native.Mathlib.Omega.{arith}
-use lib.Dec.{eqb}
+use lib.Dec.{leb, ltb, eqb}
 use lib.ListN.{length, get_or, set, take}
 use lib.Seq.{take-suc-set}
-use borrow.Author.Tests.{ltb-true}
+use borrow.Author.Tests.{leb-true, ltb-true, lt-ltb}
+use Rattle.std.specs.Char.{is_ascii_hexdigit}
 use Rattle.std.specs.List.{list_all}
 use Rattle.common.proofs.Bools.{and_first, and_second}
+use Rattle.common.specs.Tests.{between}
 use Rattle.common.specs.Texts.{digit_value, is_digit, all_digits}
 use Rattle.bench_line.specs.Digits.{is_pairs, bytes_of, padded}
 
@@ -18,6 +20,27 @@ use Rattle.bench_line.specs.Digits.{is_pairs, bytes_of, padded}
 pub all_are : (base : ℕ) (s : List ℕ) → list_all (λ c. is_digit base c) s ≡ all_digits base s
 all_are base [] = refl
 all_are base (c ∷ s) = ap (λ b. is_digit base c && b) (all_are base s)
+
+-- a hex digit, as the library has it
+pub hex_digit : (c : ℕ) → is_ascii_hexdigit c ≡ is_digit 16 c
+unfolding digit_value
+hex_digit c = go (between 48 57 c) refl (between 65 70 c) refl (between 97 102 c) refl
+  where
+    within : (a b : ℕ) → between a b c ≡ true → c ≤ b
+    within a b e = leb-true c b (and_second (leb a c) (leb c b) e)
+
+    go :
+        (p : Bool)
+        → between 48 57 c ≡ p
+        → (q : Bool)
+        → between 65 70 c ≡ q
+        → (r : Bool)
+        → between 97 102 c ≡ r
+        → (p || q) || r ≡ ltb (cond p (c - 48) (cond q (c - 55) (cond r (c - 87) 16))) 16
+    go true e q f r g = sym (lt-ltb (c - 48) 16 (omega (arith, within 48 57 e)))
+    go false e true f r g = sym (lt-ltb (c - 55) 16 (omega (arith, within 65 70 f)))
+    go false e false f true g = sym (lt-ltb (c - 87) 16 (omega (arith, within 97 102 g)))
+    go false e false f false g = refl
 
 pub pairs_digits : (s : List ℕ) → is_pairs s ≡ true → all_digits 16 s ≡ true
 unfolding is_pairs

@@ -17,22 +17,27 @@ pub enum Line {
     Tick(usize),
 }
 
+// Each field is read before the next is looked for, so that a line ends at its first field that is no number.
 fn setup_line(fields: &[u8]) -> Option<Line>
     ensures { result ≡ setup_line (fields_of fields.now) }
 {
-    let (leads, fields) = part(fields)?;
-    let (volts, fields) = part(fields)?;
-    let (amperes, fields) = part(fields)?;
-    let (resistance, fields) = part(fields)?;
-    let (volts_error, amperes_error) = part(fields)?;
+    let (field, fields) = part(fields)?;
+    let leads = decimal(field)?;
+    let (field, fields) = part(fields)?;
+    let volts = decimal(field)?;
+    let (field, fields) = part(fields)?;
+    let amperes = decimal(field)?;
+    let (field, fields) = part(fields)?;
+    let resistance = bits(field)?;
+    let (field, last) = part(fields)?;
     let numbers = SetupNumbers {
-        leads: decimal(leads)?,
-        volts: decimal(volts)?,
-        amperes: decimal(amperes)?,
-        resistance: bits(resistance)?,
+        leads,
+        volts,
+        amperes,
+        resistance,
         errors: SetupErrors {
-            volts: decimal(volts_error)?,
-            amperes: decimal(amperes_error)?,
+            volts: decimal(field)?,
+            amperes: decimal(last)?,
         },
     };
     Some(Line::Setup(numbers))

@@ -23,3 +23,7 @@ done_unless (suc n) refused done = refused (suc n)
 abbrev pub number_of : {R : Type 0} → (R → ℕ) → Result ⊤ R → ℕ
 number_of number (Ok done) = 0
 number_of number (Err refusal) = number refusal
+
+-- what a question comes to where a call asks it: the call goes on, or it is refused
+abbrev pub unless : {R : Type 0} → Bool → R → Result ⊤ R
+unless met refusal = cond met (Ok tt) (Err refusal)

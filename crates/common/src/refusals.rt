@@ -1,6 +1,6 @@
 // What a call asks before it does anything, and the number that it returns.
-ghost use Rattle.std.specs.Prelude.{ℕ, ◌≡◌, ◌<◌, cond, ⊤, Ok, Err};
-ghost use Rattle.common.specs.Refusals.{number_of};
+ghost use Rattle.std.specs.Prelude.{ℕ, ◌≡◌, ◌<◌};
+ghost use Rattle.common.specs.Refusals.{number_of, unless};
 
 // A reason to refuse a call. The host gets its number, which is never 0.
 pub trait Numbered: Copy {
@@ -24,7 +24,7 @@ pub fn answered<R: Numbered>(outcome: Result<(), R>) -> u32
 
 // A question that a call asks, in a row with its refusal.
 pub fn unless<R: Copy>(met: bool, refusal: R) -> Result<(), R>
-    ensures { result ≡ cond met (Ok tt) (Err refusal) }
+    ensures { result ≡ unless met refusal }
 {
     if met { Ok(()) } else { Err(refusal) }
 }

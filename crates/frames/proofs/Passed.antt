@@ -6,19 +6,25 @@ use Prim.Native.Nat.{ℕ, zero, suc, ◌+◌, ◌-◌, ◌*◌, ◌/◌, ◌<◌
 use native.Mathlib.Omega.{arith}
 use lib.ListN.{length, get_or, take, drop}
 use lib.Seq.{drop-drop}
-use Rattle.std.specs.Prelude.{Some, option_map}
+use Rattle.std.specs.Prelude.{Some, None, option_map}
 use Rattle.std.specs.Simd.{first_chunks}
 use Rattle.frames.specs.Records.{record_size, record_at, is_frame, last_of, newest_record}
 use Rattle.frames.specs.Heard.{battery_in, time_in, status_in, newest_battery, newest_time, newest_status, newest_frames}
 use Rattle.frames.specs.declared.newest.HeardFrames.{HeardFrames}
 
-abbrev pub heard_among : List ℕ → ℕ → HeardFrames
-heard_among s n =
+-- what was heard, with a further record
+abbrev pub with_frame : List ℕ → HeardFrames → HeardFrames
+with_frame r h =
     record {
-      battery = option_map battery_in (last_of 0x100 s n);
-      time = option_map time_in (last_of 0x101 s n);
-      status = option_map status_in (last_of 0x102 s n);
+      battery = cond (is_frame 0x100 r) (Some (battery_in r)) h.battery;
+      time = cond (is_frame 0x101 r) (Some (time_in r)) h.time;
+      status = cond (is_frame 0x102 r) (Some (status_in r)) h.status;
     }
+
+-- one pass for all three identifiers, over the first n records
+abbrev pub heard_among : List ℕ → ℕ → HeardFrames
+heard_among s zero = record { battery = None; time = None; status = None }
+heard_among s (suc n) = with_frame (record_at n s) (heard_among s n)
 
 -- what the last of an identifier says, with a further record
 further :
@@ -33,6 +39,20 @@ further f identifier s n = go (is_frame identifier (record_at n s))
         ≡ option_map f (cond b (Some (record_at n s)) (last_of identifier s n))
     go true = refl
     go false = refl
+
+-- the pass finds what the last of each identifier says
+newest_last :
+    (s : List ℕ) (n : ℕ)
+    → heard_among s n
+    ≡ record {
+      battery = option_map battery_in (last_of 0x100 s n);
+      time = option_map time_in (last_of 0x101 s n);
+      status = option_map status_in (last_of 0x102 s n);
+    }
+newest_last s zero = refl
+newest_last s (suc n) =
+    ap (with_frame (record_at n s)) (newest_last s n)
+    ∙ rw (← further battery_in 0x100 s n, ← further time_in 0x101 s n, ← further status_in 0x102 s n) refl
 
 -- of as many records, those that come after the first n
 abbrev pub after_passed : List ℕ → ℕ → ℕ → List (List ℕ)
@@ -73,7 +93,7 @@ pub heard_further :
     → after ≡ heard_among s (suc n)
 heard_further s r n before after e f battery time status =
     let told : after ≡ record { battery = after.battery; time = after.time; status = after.status } = refl in
-    told ∙ rw (battery, time, status, e, f, ← further battery_in 0x100 s n, ← further time_in 0x101 s n, ← further status_in 0x102 s n)
+    told ∙ rw (battery, time, status, e, f) refl
 
 -- all of them, where none is left to take or none to come
 pub all_passed :
@@ -92,4 +112,4 @@ all_passed s count (suc left) many n e within ended = go (many - n) refl (ended 
 -- what one pass finds among the records that the count takes in is the newest of each kind
 pub found_newest : (count : ℕ) (s : List ℕ) → heard_among s (min count (length s / record_size)) ≡ newest_frames count s
 unfolding newest_record newest_battery newest_time newest_status
-found_newest count s = refl
+found_newest count s = newest_last s (min count (length s / record_size))

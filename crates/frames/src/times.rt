@@ -23,22 +23,20 @@ pub struct ChargingTime {
 impl TensOfSeconds {
     // No time, but the mark that the minutes count.
     const SEE_MINUTES: TensOfSeconds = TensOfSeconds(0xff);
-}
 
-// Kept: a conversion for each unit, here and below, of one line; a parameter for its ticks would hide which unit a place has.
-impl From<TensOfSeconds> for Ticks {
-    ghost from_gives = { λ tens ticks. ticks.0 ≡ ticks_of_tens tens.0 };
-
-    fn from(tens: TensOfSeconds) -> Ticks {
-        Ticks(100 * u32::from(tens.0))
+    // Kept: a named conversion for each unit, here and below, and no `From`: "only named conversions join them" (document 01).
+    fn ticks(self) -> Ticks
+        ensures { result.0 ≡ ticks_of_tens self.0 }
+    {
+        Ticks(100 * u32::from(self.0))
     }
 }
 
-impl From<Minutes> for Ticks {
-    ghost from_gives = { λ minutes ticks. ticks.0 ≡ ticks_of_minutes minutes.0 };
-
-    fn from(minutes: Minutes) -> Ticks {
-        Ticks(600 * u32::from(minutes.0))
+impl Minutes {
+    fn ticks(self) -> Ticks
+        ensures { result.0 ≡ ticks_of_minutes self.0 }
+    {
+        Ticks(600 * u32::from(self.0))
     }
 }
 
@@ -79,9 +77,9 @@ impl ChargingTime {
         ensures { result.0 ≡ charging_ticks self }
     {
         if self.is_in_minutes() {
-            Ticks::from(self.minutes)
+            self.minutes.ticks()
         } else {
-            Ticks::from(self.tens)
+            self.tens.ticks()
         }
     }
 

@@ -12,13 +12,13 @@ pub watts_fit : (amperes volts : ℕ) → amperes ≤ 255 → volts ≤ 65535 �
 watts_fit amperes volts a v = let h : amperes * volts ≤ 255 * 65535 = mul-le-mul a v in omega arith
 
 module _ (amperes volts level : ℕ) where
-  met : (volts ≡ 0 → ⊥) → amperes * volts ≤ level → amperes ≡ min (amperes * volts) level / volts
+  pub met : (volts ≡ 0 → ⊥) → amperes * volts ≤ level → amperes ≡ min (amperes * volts) level / volts
   met n h = rw (min-eq_left h) (sym (mul-div_cancel amperes (omega arith)))
 
-  unmet : level < amperes * volts → level / volts ≡ min (amperes * volts) level / volts
+  pub unmet : level < amperes * volts → level / volts ≡ min (amperes * volts) level / volts
   unmet h = let e : min (amperes * volts) level ≡ level = omega arith in rw e
 
-  unmet_most : level < amperes * volts → level / volts ≤ amperes
+  pub unmet_most : level < amperes * volts → level / volts ≤ amperes
   unmet_most h = div-le_of_le-mul volts (omega (arith, mul_comm amperes volts))
 
 -- what the smaller of a want and a level carries is the smaller of that want and what the level carries

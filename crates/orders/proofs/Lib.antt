@@ -1,8 +1,9 @@
 -- Laws of texts, places and choices, the claims, and what is computed.
 pub mod PlaceBytes
-pub mod Fields
 pub mod Spelled
 pub mod Cuts
+pub mod Digits
+pub mod Fields
 pub mod Reading
 pub mod Accepted
 pub mod Choices

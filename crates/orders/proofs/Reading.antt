@@ -1,32 +1,127 @@
 -- A text read line by line, and what the call makes of its answer. Assumes nothing.
-use mathlib.Core.Bool.{cond}
-use mathlib.Core.List.{List, [], ◌∷◌}
+use mathlib.Core.Bool.{true, false, cond}
+use mathlib.Core.List.{List, [], ◌∷◌, ◌++◌}
 use mathlib.Core.Path.{◌≡◌, refl, sym, ap, ◌∙◌}
-use Prim.Native.Nat.{ℕ, ◌+◌, ◌<◌}
-use lib.ListN.{length, get_or, drop}
-use borrow.Author.Tests.{eq-eqb, eqb-true}
-use Rattle.std.specs.Prelude.{Result, Ok, Err, ⊤}
-use Rattle.std.proofs.lemmas.List.{at_drop_more}
-use Rattle.orders.specs.Places.{place_count, orders_length, orders_bytes}
+use Prim.Native.Nat.{ℕ, ◌+◌, ◌≤◌, ◌<◌}
+use native.Mathlib.Omega.{arith}
+use lib.ListN.{length}
+use borrow.Author.Tests.{eq-eqb, eqb-true, le-leb, lt-leb}
+use Rattle.std.specs.Borrow.{Bor}
+use Rattle.std.specs.Option.{ok_or}
+use Rattle.std.specs.Prelude.{Option, Some, None, option_map, Result, Ok, Err, ⊤}
+use Rattle.std.specs.Result.{IsErrAnd}
+use Rattle.orders.specs.Places.{place_count, orders_length, orders_bytes, is_used}
 use Rattle.orders.specs.Refusals.{number}
 use Rattle.common.specs.Refusals.{number_of}
 use Rattle.common.proofs.Asked.{yes, turned_down}
-use Rattle.orders.specs.Lines.{lines_of}
-use Rattle.orders.specs.Scans.{refused_at, answer_in}
+use Rattle.orders.specs.Lines.{lines_of, order_of}
+use Rattle.orders.specs.Scans.{first_line, behind_line, order_read, Adds, refused_at, answer_in}
+use Rattle.orders.proofs.Cuts.{line_first, behind_shorter}
 use Rattle.orders.specs.declared.refusals.Refusal.{Refusal}
 use Rattle.orders.specs.declared.refusals.Refusal.TheVariants.{OrdersLength}
 use lib.Dec.{eqb}
-use Rattle.orders.specs.Texts.{Answer, Accepted, read_from, answer_to, outcome_of, bytes_after, Taken, taken_of, refused_line_of}
+use Rattle.orders.specs.Texts.{Answer, Accepted, Refused, read_from, answer_to, outcome_of, bytes_after, Taken, taken_of, refused_line_of}
 use Rattle.orders.specs.declared.places.Order.{Order}
 use Rattle.orders.specs.declared.texts.RefusedLine.{RefusedLine}
 
--- the line at a turn
-pub line_turn :
-    (kept : List Order) (lines : List (List ℕ)) (n : ℕ) (line : List ℕ)
-    → (n < length lines) × (line ≡ get_or lines n line)
-    → read_from kept (drop n lines) ≡ read_from kept (line ∷ drop (n + 1) lines)
-line_turn kept lines n line h =
-    at_drop_more (read_from kept) lines n line h.0 ∙ ap (λ x. read_from kept (x ∷ drop (n + 1) lines)) (sym h.1)
+abbrev read_as : Order → List ℕ → Option (Order × List ℕ)
+read_as o r = Some (o, r)
+
+abbrev read_none : Option (Order × List ℕ)
+read_none = None
+
+-- what is read of the first line is its order, or that it is none
+order_there : (text : List ℕ) (o : Order) (r : List ℕ) → Some (o, r) ≡ order_read text → (order_of (first_line text) ≡ Some o) × (behind_line text ≡ r)
+unfolding order_read
+order_there text o r e = go (order_of (first_line text)) e
+  where
+    order : Option (Order × List ℕ) → Order
+    order (Some p) = p.0
+    order None = o
+
+    behind : Option (Order × List ℕ) → List ℕ
+    behind (Some p) = p.1
+    behind None = r
+
+    there : Option (Order × List ℕ) → ℕ
+    there (Some p) = 1
+    there None = 0
+
+    go : (x : Option Order) → read_as o r ≡ option_map (λ q. (q, behind_line text)) x → (x ≡ Some o) × (behind_line text ≡ r)
+    go (Some q) e = (ap Some (sym (ap order e)), sym (ap behind e))
+    go None e = let z : ◌≡◌ {A = ℕ} 1 0 = ap there e in absurd (omega arith)
+
+order_not : (text : List ℕ) → None ≡ order_read text → order_of (first_line text) ≡ None
+unfolding order_read
+order_not text e = go (order_of (first_line text)) e
+  where
+    there : Option (Order × List ℕ) → ℕ
+    there (Some p) = 1
+    there None = 0
+
+    go : (x : Option Order) → read_none ≡ option_map (λ q. (q, behind_line text)) x → x ≡ None
+    go (Some q) e = let z : ◌≡◌ {A = ℕ} 0 1 = ap there e in absurd (omega arith)
+    go None e = refl
+
+-- what becomes of the first line behind some orders
+module _ (kept : List Order) (text : List ℕ) (some : 0 < length text) where
+  lines : lines_of text ≡ first_line text ∷ lines_of (behind_line text)
+  lines = go text some
+    where
+      go : (s : List ℕ) → 0 < length s → lines_of s ≡ first_line s ∷ lines_of (behind_line s)
+      go [] h = absurd (omega arith)
+      go (c ∷ s) h = line_first c s
+
+  pub line_65 : place_count ≤ length kept → read_from kept (lines_of text) ≡ Refused 35 (length kept + 1)
+  line_65 h = rw (lines, le-leb place_count (length kept) h)
+
+  pub line_not : length kept < place_count → None ≡ order_read text → read_from kept (lines_of text) ≡ Refused 33 (length kept + 1)
+  line_not h e = rw (lines, lt-leb place_count (length kept) h, order_not text e)
+
+  module _ (h : length kept < place_count) (o : Order) (r : List ℕ) (e : Some (o, r) ≡ order_read text) where
+    pub line_used : is_used o.number kept ≡ true → read_from kept (lines_of text) ≡ Refused 34 (length kept + 1)
+    line_used u = rw (lines, lt-leb place_count (length kept) h, (order_there text o r e).0, u)
+
+    pub line_taken : is_used o.number kept ≡ false → read_from kept (lines_of text) ≡ read_from (kept ++ (o ∷ [])) (lines_of r)
+    line_taken u = rw (lines, lt-leb place_count (length kept) h, (order_there text o r e).0, u, (order_there text o r e).1)
+
+    pub line_shorter : length r < length text
+    line_shorter = go text some (order_there text o r e).1
+      where
+        go : (s : List ℕ) → 0 < length s → behind_line s ≡ r → length r < length s
+        go [] h b = absurd (omega arith)
+        go (c ∷ s) h b = omega (arith, behind_shorter c s, ap length b)
+
+-- what `ok_or` was given
+module _ {A E : Type 0} (d : E) where
+  abbrev error : Result A E → E
+  error (Ok x) = d
+  error (Err e) = e
+
+  abbrev value : A → Result A E → A
+  value x (Ok y) = y
+  value x (Err e) = x
+
+  abbrev fine : Result A E → ℕ
+  fine (Ok x) = 1
+  fine (Err e) = 0
+
+  pub given_none : (x : Option A) (r : E) → Err r ≡ ok_or x d → (x ≡ None) × (r ≡ d)
+  given_none None r e = (refl, ap error e)
+  given_none (Some y) r e = let z : ◌≡◌ {A = ℕ} 0 1 = ap fine e in absurd (omega arith)
+
+  pub given_some : (x : Option A) (y : A) → Ok y ≡ ok_or x d → x ≡ Some y
+  given_some None y e = let z : ◌≡◌ {A = ℕ} 1 0 = ap fine e in absurd (omega arith)
+  given_some (Some z) y e = ap Some (sym (ap (value y) e))
+
+-- a refusal handed on
+pub refused_with :
+    {E : Type 0} (answer : E → Answer) (kept : List Order) (text : List ℕ) (out : Result (Order × Bor (List ℕ)) E) (r : E)
+    → IsErrAnd out (λ o. o ≡ r)
+    → read_from kept (lines_of text) ≡ answer r
+    → Adds answer kept text out
+refused_with answer kept text (Ok p) r h e = absurd h
+refused_with answer kept text (Err o) r h e = e ∙ ap answer (sym h)
 
 module _ (text orders : List ℕ) where
   taken_is :
@@ -55,7 +150,7 @@ module _ (text orders : List ℕ) where
       (asked : Ok done ≡ cond (eqb (length orders) orders_length) (Ok (tt {0})) (Err e))
       (empty : begun ≡ [])
       (known : answer_in kept read ≡ read_from begun (lines_of text)) where
-    right : length orders ≡ orders_length
+    pub right : length orders ≡ orders_length
     right = eqb-true (length orders) orders_length (yes (eqb (length orders) orders_length) e asked refl)
 
     answered : answer_in kept read ≡ answer_to text

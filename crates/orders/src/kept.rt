@@ -1,26 +1,27 @@
-// The orders of the lines that have been read, in the text's order.
-ghost use Rattle.std.specs.Prelude.{◌≡◌, ◌-◌, ◌<◌, ◌≤◌, List, [], ◌∷◌, ◌++◌, length, take, drop, replicate};
-ghost use Rattle.orders.specs.Places.{place_count, unused, orders_bytes, is_used};
+// The orders of the lines that have been read, in the text's order, each in the place in which the host lends it.
+ghost use Rattle.std.specs.Prelude.{◌≡◌, ◌-◌, ◌<◌, ◌≤◌, List, [], ◌∷◌, ◌++◌, length, take, drop, map, replicate};
+ghost use Rattle.orders.specs.Places.{place_count, unused, order_in, order_bytes, orders_bytes, is_used};
 ghost use Rattle.orders.specs.declared.places.Order.{Order};
 
-use super::places::{ORDERS_LENGTH, Order, PLACE_COUNT};
+use super::places::{Order, PLACE_COUNT};
 use std::marker::Model;
 
 // The places behind the orders are unused.
 // Kept: a count beside an array; a rule of the project (no heap, fixed memory) needs it.
 #[derive(Drop)]
 pub(crate) struct Kept {
-    orders: [Order; PLACE_COUNT],
+    places: [[u8; Order::SIZE]; PLACE_COUNT],
     count: usize,
 }
 
 impl Model for Kept {
     ghost Value = { List Order };
 
-    ghost view = { λ k. take k.count k.orders };
+    ghost view = { λ k. map order_in (take k.count k.places) };
 
-    ghost invariant = { λ k. (length k.orders ≡ place_count) × (k.count ≤ place_count)
-        × (drop k.count k.orders ≡ replicate (place_count - k.count) unused) };
+    ghost invariant = { λ k. (length k.places ≡ place_count) × (k.count ≤ place_count)
+        × (take k.count k.places ≡ map order_bytes (map order_in (take k.count k.places)))
+        × (drop k.count k.places ≡ replicate (place_count - k.count) (order_bytes unused)) };
 }
 
 impl Kept {
@@ -28,7 +29,7 @@ impl Kept {
         ensures { result ≡ [] }
     {
         Kept {
-            orders: [Order::unused(); PLACE_COUNT],
+            places: [Order::unused().bytes(); PLACE_COUNT],
             count: 0,
         }
     }
@@ -44,29 +45,23 @@ impl Kept {
     pub(crate) fn is_used(&self, number: u32) -> bool
         ensures { result ≡ is_used number self.now }
     {
-        self.orders[..self.count]
+        self.places[..self.count]
             .iter()
-            .any(|order| order.number == number)
+            .any(|place| Order::read(place).number == number)
     }
 
     pub(crate) fn push(&mut self, order: Order)
         requires { length self.old < place_count }
         ensures { self.new ≡ self.old ++ order ∷ [] }
     {
-        self.orders[self.count] = order;
+        self.places[self.count] = order.bytes();
         self.count += 1;
     }
 
     // Every place, one after the other.
-    pub(crate) fn bytes(&self) -> [u8; ORDERS_LENGTH]
-        ensures { result ≡ orders_bytes place_count self.now }
+    pub(crate) fn bytes(&self) -> &[u8]
+        ensures { result.now ≡ orders_bytes place_count self.now }
     {
-        let mut places = [[0u8; Order::SIZE]; PLACE_COUNT];
-        for (place, order) in self.orders.iter().enumerate() {
-            places[place] = order.bytes();
-        }
-        let mut bytes = [0u8; ORDERS_LENGTH];
-        bytes.copy_from_slice(places.as_flattened());
-        bytes
+        self.places.as_flattened()
     }
 }

@@ -43,7 +43,7 @@ fn replace_orders(text: &[u8], orders: &mut [u8]) -> Result<(), Refusal>
     let mut kept = Kept::new();
     let outcome = read_text(text, &mut kept);
     outcome?;
-    orders.copy_from_slice(&kept.bytes());
+    orders.copy_from_slice(kept.bytes());
     Ok(())
 }
 

@@ -73,5 +73,7 @@ impl Order {
 pub fn no_orders() -> [u8; ORDERS_LENGTH]
     ensures { result ≡ no_orders }
 {
-    Kept::new().bytes()
+    let mut orders = [0u8; ORDERS_LENGTH];
+    orders.copy_from_slice(Kept::new().bytes());
+    orders
 }

@@ -1,6 +1,6 @@
 // The plug of a lead with the system B coupler (GB/T): millivolts of detection point 1 in, a plug bit out, one bool kept. Document 02,
 // 2026-07, with the figures of source document 000, Table B.2. It knows nothing of leads and posts: the host puts the bit into a lead's
-// contacts. Rests on the promises of `common` and `little_endian`.
+// contacts. Rests on the promises of `common` and on definitions of `little_endian`.
 #![tactic(auto, using(std::proofs::lemmas::Bool::Decides::nat_tests), unfolding(crate::specs::All::plug_rules))]
 
 ghost use Rattle.std.specs.Prelude.{◌≡◌};

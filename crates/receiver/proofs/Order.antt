@@ -61,7 +61,7 @@ module _ (x m : ℕ) (byte : x < 256) (low : m < mailbox_count) where
     gone : T (rest_left x m (k ∷ rest))
     gone = subst (λ (l : List ℕ). T (rest_left x m l)) met first_gone
 
-    first_below : k < mailbox_count
+    pub first_below : k < mailbox_count
     first_below = ltb→lt k mailbox_count (and_l (ltb k mailbox_count) (same (emptied_order x m k) rest) gone)
 
     pub rest_left_lem : emptied_order x m k ≡ rest

@@ -13,7 +13,7 @@ use Rattle.std.specs.List.Sorted.{IsPermutation, IsSorted}
 use Rattle.std.specs.Ordering.{nat_cmp}
 use Rattle.std.proofs.lemmas.List.Sums.{sum_by-cons}
 use Rattle.std.proofs.lemmas.List.Sorted.{IsNonDecreasingBy-from_sort, sum_by-IsPermutation}
-use Rattle.sharing.specs.Level.{want_of}
+use Rattle.sharing.specs.Level.{places, want_of}
 use Rattle.sharing.specs.Way.{insert, in_order}
 use Rattle.sharing.proofs.Sums.{sum_of_each}
 
@@ -141,3 +141,12 @@ module _ (a b c d : ℕ) where
       (λ f.
       in_order_sum f (a ∷ b ∷ c ∷ d ∷ [])
       ∙ omega (arith, pair_sum f a b, pair_sum f c d, pair_sum f (min a b) (min c d), pair_sum f (max a b) (max c d), pair_sum f between other))
+
+-- an array of four has these members
+pub four_members : (wants : List ℕ) → length wants ≡ places → wants ≡ want_of wants 0 ∷ want_of wants 1 ∷ want_of wants 2 ∷ want_of wants 3 ∷ []
+four_members [] e = absurd (omega arith)
+four_members (a ∷ []) e = absurd (omega arith)
+four_members (a ∷ b ∷ []) e = absurd (omega arith)
+four_members (a ∷ b ∷ c ∷ []) e = absurd (omega arith)
+four_members (a ∷ b ∷ c ∷ d ∷ []) e = refl
+four_members (a ∷ b ∷ c ∷ d ∷ more ∷ wants) e = absurd (omega arith)

@@ -3,35 +3,35 @@ use mathlib.Core.Path.{sym, ◌∙◌}
 use Rattle.bench_line.proofs.Rests.{decimal_last_lem}
 use Rattle.bench_line.proofs.lines.setup_line.Goals as goal
 
-pub returns-in_err-decimal-5 : goal.returns-in_err-decimal-5
-returns-in_err-decimal-5 c =
+pub returns-in_err-decimal-2 : goal.returns-in_err-decimal-2
+returns-in_err-decimal-2 c =
     rw (
-      c.from_residual-in_err-decimal-5.ensures,
-      c.in_ok-leads.ensures,
-      c.in_ok-volts.ensures,
-      c.in_ok-amperes.ensures,
-      c.in_ok-resistance.ensures,
-      c.in_ok-volts_error.ensures,
+      c.from_residual-in_err-decimal-2.ensures,
+      c.in_ok-field.ensures,
+      c.in_ok-field-2.ensures,
+      c.in_ok-field-3.ensures,
+      c.in_ok-field-4.ensures,
+      c.in_ok-field-5.ensures,
+      ← c.in_ok-leads.ensures,
+      ← c.in_ok-volts.ensures,
+      ← c.in_ok-amperes.ensures,
+      ← c.in_ok-resistance.ensures,
       ← c.in_ok-decimal.ensures,
-      ← c.in_ok-decimal-2.ensures,
-      ← c.in_ok-decimal-3.ensures,
-      ← c.in_ok-bits.ensures,
-      ← c.in_ok-decimal-4.ensures,
     )
-    (decimal_last_lem c.in_ok-volts_error.amperes_error.now _ _ (sym c.decimal-5.ensures ∙ c.in_err-decimal-5.was))
+    (decimal_last_lem c.in_ok-field-5.last.now _ _ (sym c.decimal-5.ensures ∙ c.in_err-decimal-2.was))
 
 pub returns : goal.returns
 returns c =
     rw (
-      c.in_ok-leads.ensures,
-      c.in_ok-volts.ensures,
-      c.in_ok-amperes.ensures,
-      c.in_ok-resistance.ensures,
-      c.in_ok-volts_error.ensures,
+      c.in_ok-field.ensures,
+      c.in_ok-field-2.ensures,
+      c.in_ok-field-3.ensures,
+      c.in_ok-field-4.ensures,
+      c.in_ok-field-5.ensures,
+      ← c.in_ok-leads.ensures,
+      ← c.in_ok-volts.ensures,
+      ← c.in_ok-amperes.ensures,
+      ← c.in_ok-resistance.ensures,
       ← c.in_ok-decimal.ensures,
-      ← c.in_ok-decimal-2.ensures,
-      ← c.in_ok-decimal-3.ensures,
-      ← c.in_ok-bits.ensures,
-      ← c.in_ok-decimal-4.ensures,
     )
-    (decimal_last_lem c.in_ok-volts_error.amperes_error.now _ _ (sym c.decimal-5.ensures ∙ c.in_ok-decimal-5.was))
+    (decimal_last_lem c.in_ok-field-5.last.now _ _ (sym c.decimal-5.ensures ∙ c.in_ok-decimal-2.was))

@@ -26,7 +26,7 @@ returns-in_default c =
     let none = found_in a.piece.now a.at.read (omega arith) c.line_feed.ensures c.in_default.is in
     record {
       fits = ((search rules, search rules), omega arith);
-      answered = at_end a.self.now a.at a.piece.now a.text.now (omega arith) put.new.self put.ensures.post none put.ensures.line;
+      answered = at_end a.self.now a.at a.piece.now a.text.now (omega arith) (record { begun = put.new.self; post = a.self.now.post }) refl none put.ensures;
     }
 
 pub overflow_add-result : goal.overflow_add-result
@@ -39,9 +39,9 @@ pub overflow_add-result-3 : goal.overflow_add-result-3
 overflow_add-result-3 c =
     let put = c.add-2 in
     let a = c.args in
-    let kept = put.new.self.post in
+    let kept = a.self.now.post in
     let within =
-    written_within (answer_to (kept_in kept.leads kept.state) (take put.new.self.begun put.new.self.line)) (behind a.at a.text.now)
+    written_within (answer_to (kept_in kept.leads kept.state) (take put.new.self.count put.new.self.line)) (behind a.at a.text.now)
     c.answer_line-written.ensures.answered in
     omega (arith, within, space a.at a.text.now)
 
@@ -54,13 +54,13 @@ returns c =
     let cut = cut_out a.piece.now a.at.read (omega arith) in
     let here = found_in a.piece.now a.at.read (omega arith) c.line_feed.ensures c.in-Some.is in
     let room = space a.at a.text.now in
-    let kept = put.new.self.post in
+    let kept = a.self.now.post in
     let within =
-    written_within (answer_to (kept_in kept.leads kept.state) (take put.new.self.begun put.new.self.line)) (behind a.at a.text.now)
+    written_within (answer_to (kept_in kept.leads kept.state) (take put.new.self.count put.new.self.line)) (behind a.at a.text.now)
     done.ensures.answered in
     record {
       fits = ((omega (arith, here.1, length-drop a.at.read a.piece.now), omega (arith, within, room)), omega arith);
-      answered = line_answered a.self.now a.at a.piece.now a.text.now (omega arith) put.new.self.line n put.new.self.begun here.0 here.1
-          (rw cut at put.ensures.line) _ refl done.result done.new.text (behind a.at a.text.now) _ (omega (arith, room))
-          (omega arith) (rw put.ensures.post at done.ensures.answered);
+      answered = line_answered a.self.now a.at a.piece.now a.text.now (omega arith) put.new.self.line n put.new.self.count here.0 here.1
+          (rw cut at put.ensures) _ refl done.result done.new.text (behind a.at a.text.now) _ (omega (arith, room))
+          (omega arith) done.ensures.answered;
     }
