@@ -8,7 +8,8 @@ use native.Mathlib.Omega.{arith}
 use lib.Dec.{eqb}
 use lib.ListN.{length, take, drop, set, replicate, length-append, length-map}
 use lib.Seq.{take-suc-set}
-use Rattle.std.specs.List.{flat_map, list_any}
+use Rattle.std.specs.List.{flat_map, fold, list_any}
+use Rattle.std.proofs.Math.Bool.{or_assoc, or-false}
 use Rattle.std.proofs.lemmas.List.{length-take-le, length-set, drop-set-lt, drop-drop, drop-replicate}
 use Rattle.little_endian.proofs.Bytes.{u32_back}
 use Rattle.orders.specs.Places.{place_count, place_size, unused, order_in, order_bytes, orders_in, orders_bytes, is_used}
@@ -116,7 +117,17 @@ kept_more i places o b h long front behind e =
       unused_less i places o place_count h behind,
     )
 
--- a number used, as the library finds it among places
-pub used_any : (number : ℕ) (places : List (List ℕ)) → list_any (λ (p : List ℕ). eqb (order_in p).number number) places ≡ is_used number (map order_in places)
+-- a number used, as the library finds it
+pub used_any : (number : ℕ) (os : List Order) → list_any (λ (o : Order). eqb o.number number) os ≡ is_used number os
 used_any number [] = refl
-used_any number (p ∷ ps) = ap (λ (b : Bool). eqb (order_in p).number number || b) (used_any number ps)
+used_any number (o ∷ os) = ap (λ (b : Bool). eqb o.number number || b) (used_any number os)
+
+-- and as a fold over places finds it
+pub used_fold :
+    (number : ℕ) (used : Bool) (places : List (List ℕ))
+    → fold (λ (b : Bool) (p : List ℕ). b || eqb (order_in p).number number) used places
+    ≡ used || list_any (λ (o : Order). eqb o.number number) (map order_in places)
+used_fold number used [] = sym (or-false used)
+used_fold number used (p ∷ ps) =
+    let test : Order → Bool = λ o. eqb o.number number in
+    used_fold number (used || test (order_in p)) ps ∙ or_assoc used (test (order_in p)) (list_any test (map order_in ps))

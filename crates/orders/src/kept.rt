@@ -41,13 +41,15 @@ impl Kept {
         self.count
     }
 
-    // Whether one of the orders has the number.
+    // Whether one of the orders has the number. Every order is compared, by `fold`: a way out at the first, as `any` has it, costs more at
+    // each, and in a text that is accepted none has the number.
     pub(crate) fn is_used(&self, number: u32) -> bool
         ensures { result ≡ is_used number self.now }
     {
-        self.places[..self.count]
-            .iter()
-            .any(|place| Order::read(place).number == number)
+        self.places[..self.count].iter().fold(
+            false,
+            |used, place| used | (Order::read(place).number == number),
+        )
     }
 
     pub(crate) fn push(&mut self, order: Order)
