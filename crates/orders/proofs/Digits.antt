@@ -90,14 +90,9 @@ module _ (s : List ℕ) where
   pub digits_length : (v k : ℕ) → Some (v, k) ≡ digits_from 0 0 s → k ≡ field_length s
   digits_length v k q = go (number_from 10 most 0 (first_field s)) (q ∙ digits_are 0 0 s (omega arith))
     where
-      -- one more than the length, 0 where there is none
-      told : Option (ℕ × ℕ) → ℕ
-      told (Some p) = suc p.1
-      told None = 0
-
       go : (x : Option ℕ) → Some (v, k) ≡ placed (0 + field_length s) x → k ≡ field_length s
-      go (Some w) q = omega (arith, ap told q)
-      go None q = absurd (omega (arith, ap told q))
+      go (Some w) q = let same : ◌≡◌ {A = ℕ × ℕ} (v, k) (w, 0 + field_length s) = cc in omega (arith, ap (λ p. p.1) same)
+      go None q = absurd cc
 
   pub number_plain : (x : Option (ℕ × ℕ)) → x ≡ digits_from 0 0 s → is_plain (first_field s) ≡ true → x ≡ number_at s
   number_plain x e p = e ∙ sym (number_is ∙ ap (λ b. cond b (digits_from 0 0 s) None) p)

@@ -35,32 +35,18 @@ order_there : (text : List ℕ) (o : Order) (r : List ℕ) → Some (o, r) ≡ o
 unfolding order_read
 order_there text o r e = go (order_of (first_line text)) e
   where
-    order : Option (Order × List ℕ) → Order
-    order (Some p) = p.0
-    order None = o
-
-    behind : Option (Order × List ℕ) → List ℕ
-    behind (Some p) = p.1
-    behind None = r
-
-    there : Option (Order × List ℕ) → ℕ
-    there (Some p) = 1
-    there None = 0
-
     go : (x : Option Order) → read_as o r ≡ option_map (λ q. (q, behind_line text)) x → (x ≡ Some o) × (behind_line text ≡ r)
-    go (Some q) e = (ap Some (sym (ap order e)), sym (ap behind e))
-    go None e = let z : ◌≡◌ {A = ℕ} 1 0 = ap there e in absurd (omega arith)
+    go (Some q) e =
+        let same : ◌≡◌ {A = Order × List ℕ} (o, r) (q, behind_line text) = cc in
+        (ap (λ p. Some (p.0)) (sym same), ap (λ p. p.1) (sym same))
+    go None e = absurd cc
 
 order_not : (text : List ℕ) → None ≡ order_read text → order_of (first_line text) ≡ None
 unfolding order_read
 order_not text e = go (order_of (first_line text)) e
   where
-    there : Option (Order × List ℕ) → ℕ
-    there (Some p) = 1
-    there None = 0
-
     go : (x : Option Order) → read_none ≡ option_map (λ q. (q, behind_line text)) x → x ≡ None
-    go (Some q) e = let z : ◌≡◌ {A = ℕ} 0 1 = ap there e in absurd (omega arith)
+    go (Some q) e = absurd cc
     go None e = refl
 
 -- what becomes of the first line behind some orders
@@ -94,25 +80,13 @@ module _ (kept : List Order) (text : List ℕ) (some : 0 < length text) where
 
 -- what `ok_or` was given
 module _ {A E : Type 0} (d : E) where
-  abbrev error : Result A E → E
-  error (Ok x) = d
-  error (Err e) = e
-
-  abbrev value : A → Result A E → A
-  value x (Ok y) = y
-  value x (Err e) = x
-
-  abbrev fine : Result A E → ℕ
-  fine (Ok x) = 1
-  fine (Err e) = 0
-
   pub given_none : (x : Option A) (r : E) → Err r ≡ ok_or x d → (x ≡ None) × (r ≡ d)
-  given_none None r e = (refl, ap error e)
-  given_none (Some y) r e = let z : ◌≡◌ {A = ℕ} 0 1 = ap fine e in absurd (omega arith)
+  given_none None r e = (refl, cc)
+  given_none (Some y) r e = absurd cc
 
   pub given_some : (x : Option A) (y : A) → Ok y ≡ ok_or x d → x ≡ Some y
-  given_some None y e = let z : ◌≡◌ {A = ℕ} 1 0 = ap fine e in absurd (omega arith)
-  given_some (Some z) y e = ap Some (sym (ap (value y) e))
+  given_some None y e = absurd cc
+  given_some (Some z) y e = ap Some (cc)
 
 -- a refusal handed on
 pub refused_with :

@@ -1,27 +1,32 @@
 -- `orders::lines::ended` meets its contract. The number, and the character behind it, if there is one. Assumes nothing.
-use Rattle.std.proofs.Common.{sym, ap, ◌∙◌}
-use Rattle.orders.specs.Scans.{seen}
-use Rattle.orders.proofs.Fields.{end_there, end_not, end_past, ended_by, ended_none}
+use Rattle.std.proofs.Common.{Some, [], sym, ap, ◌∙◌}
+use Rattle.std.proofs.lemmas.List.{nil_from_length}
+use borrow.Author.Tests.{eq-eqb, ne_eqb}
+use Rattle.orders.specs.Scans.{seen, if_ended, ended_read}
+use Rattle.orders.proofs.Fields.{by_number, by_none}
 use Rattle.orders.proofs.lines.ended.Goals as goal
 
 pub returns-in_err-value : goal.returns-in_err-value
-returns-in_err-value c =
-    ap seen c.from_residual.ensures ∙ ended_none c.args.text.now (sym c.in_err-value.was ∙ c.number.ensures.number)
+unfolding ended_read
+returns-in_err-value c = ap seen c.from_residual.ensures ∙ by_none if_ended c.args.text.now (sym c.in_err-value.was ∙ c.number.ensures.number)
 
 pub returns-in_default : goal.returns-in_default
+unfolding ended_read
 returns-in_default c =
-    let s = c.args.text.now in
-    end_past c.in_ok-value.value _ c.in_default.ensures.cases
-    ∙ ended_by s _ c.in_ok-value.length (sym c.in_ok-value.was ∙ c.number.ensures.number)
+    let number = sym c.in_ok-value.was ∙ c.number.ensures.number in
+    let nothing = nil_from_length _ c.in_default.ensures.cases in
+    ap (λ r. Some (c.in_ok-value.value, r)) nothing ∙ by_number if_ended c.args.text.now _ _ number [] nothing
 
 pub returns-then-mark-ne-LINE_FEED : goal.returns-then-mark-ne-LINE_FEED
+unfolding ended_read
 returns-then-mark-ne-LINE_FEED c =
-    let s = c.args.text.now in
-    end_not c.in_ok-value.value _ _ _ c.in-Some.ensures.cases.0 c.if-mark-ne-LINE_FEED.true
-    ∙ ended_by s _ c.in_ok-value.length (sym c.in_ok-value.was ∙ c.number.ensures.number)
+    let number = sym c.in_ok-value.was ∙ c.number.ensures.number in
+    let other = ne_eqb _ 10 c.if-mark-ne-LINE_FEED.true in
+    rw other at (by_number if_ended c.args.text.now _ _ number _ c.in-Some.ensures.cases.0)
 
 pub returns : goal.returns
+unfolding ended_read
 returns c =
-    let s = c.args.text.now in
-    end_there c.in_ok-value.value _ _ _ c.in-Some.ensures.cases.0 c.if-mark-ne-LINE_FEED.false
-    ∙ ended_by s _ c.in_ok-value.length (sym c.in_ok-value.was ∙ c.number.ensures.number)
+    let number = sym c.in_ok-value.was ∙ c.number.ensures.number in
+    let feed = eq-eqb _ 10 c.if-mark-ne-LINE_FEED.false in
+    rw feed at (by_number if_ended c.args.text.now _ _ number _ c.in-Some.ensures.cases.0)

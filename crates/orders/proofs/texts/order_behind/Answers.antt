@@ -1,8 +1,8 @@
 -- `orders::texts::order_behind` meets its contract. The line is a 65th, no order, of a number used, or one order more. Assumes nothing.
-use mathlib.Core.Bool.{Bool, true, false, not}
-use Rattle.std.proofs.Common.{◌≡◌, ◌<◌, ◌+◌, length, refl, sym, ap, ◌∙◌, arith}
+use mathlib.Core.Bool.{not}
+use Rattle.std.proofs.Common.{◌<◌, ◌+◌, length, sym, ap, ◌∙◌, arith}
 use lib.Dec.{ltb}
-use borrow.Author.Tests.{ltb-true, ltb-false}
+use borrow.Author.Tests.{ltb-true, ltb-false, not-true, not-false}
 use Rattle.common.proofs.Asked.{yes, turned_down}
 use Rattle.orders.specs.Refusals.{number}
 use Rattle.orders.specs.Texts.{Refused}
@@ -10,15 +10,6 @@ use Rattle.orders.specs.Scans.{seen}
 use Rattle.orders.specs.declared.refusals.Refusal.TheVariants.{Line65, LineForm, NumberUsed}
 use Rattle.orders.proofs.Reading.{line_65, line_not, line_used, line_taken, line_shorter, given_none, given_some, refused_with}
 use Rattle.orders.proofs.texts.order_behind.Goals as goal
-
--- a question that asks for the contrary
-no_is_yes : (b : Bool) → not b ≡ false → b ≡ true
-no_is_yes true e = refl
-no_is_yes false e = sym e
-
-yes_is_no : (b : Bool) → not b ≡ true → b ≡ false
-yes_is_no true e = sym e
-yes_is_no false e = refl
 
 pub returns-in_err-unless : goal.returns-in_err-unless
 returns-in_err-unless c =
@@ -44,7 +35,7 @@ returns-in_err-unless-2 c =
     let read = ap seen (sym (given_some LineForm c.first_order.result _ c.in_ok-order.ensures.value)) ∙ c.first_order.ensures in
     let told = turned_down (not c.is_used.result) NumberUsed c.unless-2.ensures c.in_err-unless-2.was in
     refused_with _ a.kept.now a.text.now _ _ c.from_residual-in_err-unless-2.ensures.1
-    (line_used a.kept.now a.text.now c.requires room _ _ read (sym c.is_used.ensures ∙ no_is_yes c.is_used.result told.0)
+    (line_used a.kept.now a.text.now c.requires room _ _ read (sym c.is_used.ensures ∙ not-false c.is_used.result told.0)
     ∙ ap (λ r. Refused (number r) (length a.kept.now + 1)) (sym told.1))
 
 pub returns : goal.returns
@@ -52,7 +43,7 @@ returns c =
     let a = c.args in
     let room : length a.kept.now < 64 = omega (arith, ltb-true c.len.result 64 (yes (ltb c.len.result 64) Line65 c.unless.ensures c.in_ok-unless.was), c.len.ensures.len) in
     let read = ap seen (sym (given_some LineForm c.first_order.result _ c.in_ok-order.ensures.value)) ∙ c.first_order.ensures in
-    let free = yes_is_no c.is_used.result (yes (not c.is_used.result) NumberUsed c.unless-2.ensures c.in_ok-unless-2.was) in (
+    let free = not-true c.is_used.result (yes (not c.is_used.result) NumberUsed c.unless-2.ensures c.in_ok-unless-2.was) in (
       room,
       line_shorter a.kept.now a.text.now c.requires room _ _ read,
       line_taken a.kept.now a.text.now c.requires room _ _ read (sym c.is_used.ensures ∙ free),
