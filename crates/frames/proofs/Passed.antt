@@ -41,7 +41,7 @@ further f identifier s n = go (is_frame identifier (record_at n s))
     go false = refl
 
 -- the pass finds what the last of each identifier says
-newest_last :
+pub newest_last :
     (s : List ℕ) (n : ℕ)
     → heard_among s n
     ≡ record {

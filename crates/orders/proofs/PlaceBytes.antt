@@ -68,7 +68,7 @@ take_set places i b h = rw (add-one i) (take-suc-set places i b h)
 
 -- one order more, and one unused place less
 module _ (i : ℕ) (places : List (List ℕ)) (o : Order) where
-  unused_less :
+  pub unused_less :
       (n : ℕ)
       → i < n
       → drop i places ≡ replicate (n - i) (order_bytes unused)

@@ -15,7 +15,7 @@ use Rattle.orders.specs.Refusals.{number}
 use Rattle.common.specs.Refusals.{number_of}
 use Rattle.common.proofs.Asked.{yes, turned_down}
 use Rattle.orders.specs.Lines.{lines_of, order_of}
-use Rattle.orders.specs.Scans.{first_line, behind_line, order_read, Adds, refused_at, answer_in}
+use Rattle.orders.specs.Scans.{first_line, behind_line, order_read, Adds, order_alone, AddsFirst, refused_at, answer_in}
 use Rattle.orders.proofs.Cuts.{line_first, behind_shorter}
 use Rattle.orders.specs.declared.refusals.Refusal.{Refusal}
 use Rattle.orders.specs.declared.refusals.Refusal.TheVariants.{OrdersLength}
@@ -49,7 +49,27 @@ order_not text e = go (order_of (first_line text)) e
     go (Some q) e = absurd cc
     go None e = refl
 
--- what becomes of the first line behind some orders
+-- what becomes of the first line behind some orders, whatever lines follow
+module _ (kept : List Order) (text : List ℕ) where
+  pub first_65 : place_count ≤ length kept → (lines : List (List ℕ)) → read_from kept (first_line text ∷ lines) ≡ Refused 35 (length kept + 1)
+  first_65 h lines = rw (le-leb place_count (length kept) h)
+
+  module _ (h : length kept < place_count) where
+    pub first_not : None ≡ order_read text → (lines : List (List ℕ)) → read_from kept (first_line text ∷ lines) ≡ Refused 33 (length kept + 1)
+    first_not e lines = rw (lt-leb place_count (length kept) h, order_not text e)
+
+    module _ (o : Order) (r : List ℕ) (e : Some (o, r) ≡ order_read text) where
+      pub first_used :
+          is_used o.number kept ≡ true → (lines : List (List ℕ)) → read_from kept (first_line text ∷ lines) ≡ Refused 34 (length kept + 1)
+      first_used u lines = rw (lt-leb place_count (length kept) h, (order_there text o r e).0, u)
+
+      pub first_taken :
+          is_used o.number kept ≡ false
+          → (lines : List (List ℕ))
+          → read_from kept (first_line text ∷ lines) ≡ read_from (kept ++ (o ∷ [])) lines
+      first_taken u lines = rw (lt-leb place_count (length kept) h, (order_there text o r e).0, u)
+
+-- and where those behind it follow
 module _ (kept : List Order) (text : List ℕ) (some : 0 < length text) where
   lines : lines_of text ≡ first_line text ∷ lines_of (behind_line text)
   lines = go text some
@@ -59,17 +79,20 @@ module _ (kept : List Order) (text : List ℕ) (some : 0 < length text) where
       go (c ∷ s) h = line_first c s
 
   pub line_65 : place_count ≤ length kept → read_from kept (lines_of text) ≡ Refused 35 (length kept + 1)
-  line_65 h = rw (lines, le-leb place_count (length kept) h)
+  line_65 h = ap (read_from kept) lines ∙ first_65 kept text h _
 
   pub line_not : length kept < place_count → None ≡ order_read text → read_from kept (lines_of text) ≡ Refused 33 (length kept + 1)
-  line_not h e = rw (lines, lt-leb place_count (length kept) h, order_not text e)
+  line_not h e = ap (read_from kept) lines ∙ first_not kept text h e _
 
   module _ (h : length kept < place_count) (o : Order) (r : List ℕ) (e : Some (o, r) ≡ order_read text) where
     pub line_used : is_used o.number kept ≡ true → read_from kept (lines_of text) ≡ Refused 34 (length kept + 1)
-    line_used u = rw (lines, lt-leb place_count (length kept) h, (order_there text o r e).0, u)
+    line_used u = ap (read_from kept) lines ∙ first_used kept text h o r e u _
 
     pub line_taken : is_used o.number kept ≡ false → read_from kept (lines_of text) ≡ read_from (kept ++ (o ∷ [])) (lines_of r)
-    line_taken u = rw (lines, lt-leb place_count (length kept) h, (order_there text o r e).0, u, (order_there text o r e).1)
+    line_taken u =
+        ap (read_from kept) lines
+        ∙ first_taken kept text h o r e u _
+        ∙ ap (λ s. read_from (kept ++ (o ∷ [])) (lines_of s)) (order_there text o r e).1
 
     pub line_shorter : length r < length text
     line_shorter = go text some (order_there text o r e).1
@@ -93,9 +116,18 @@ pub refused_with :
     {E : Type 0} (answer : E → Answer) (kept : List Order) (text : List ℕ) (out : Result (Order × Bor (List ℕ)) E) (r : E)
     → IsErrAnd out (λ o. o ≡ r)
     → read_from kept (lines_of text) ≡ answer r
-    → Adds answer kept text out
+    → AddsFirst answer kept text out
 refused_with answer kept text (Ok p) r h e = absurd h
 refused_with answer kept text (Err o) r h e = e ∙ ap answer (sym h)
+
+-- and of a line, whatever lines follow
+pub refused_first :
+    {E : Type 0} (answer : E → Answer) (kept : List Order) (line : List ℕ) (out : Result (Order × Bor (List ℕ)) E) (r : E)
+    → IsErrAnd out (λ o. o ≡ r)
+    → ((lines : List (List ℕ)) → read_from kept (line ∷ lines) ≡ answer r)
+    → Adds answer kept line (order_alone out)
+refused_first answer kept line (Ok p) r h e = absurd h
+refused_first answer kept line (Err o) r h e = λ lines. e lines ∙ ap answer (sym h)
 
 module _ (text orders : List ℕ) where
   taken_is :

@@ -2,6 +2,7 @@
 -- `allowance_of`) do not rest on it. Definitions only.
 use Rattle.std.specs.Prelude.{◌≡◌, Bool, cond, ◌||◌, List, [], ◌∷◌, ◌++◌, ℕ, suc, ◌+◌, ◌*◌, ◌<◌, leb, eqb, length, drop, Option, Some, None, option_map, Result, Ok, Err, ⊤}
 use Rattle.std.specs.Borrow.{Bor}
+use Rattle.std.specs.Result.{result_map_both}
 use Rattle.common.specs.Texts.{digit_value, is_digit}
 use Rattle.orders.specs.Lines.{lines_of, order_of}
 use Rattle.orders.specs.Numbers.{most, number_of}
@@ -73,13 +74,23 @@ ended_read s = by_rest if_ended s (number_at s)
 unfoldable pub order_read : List ℕ → Option (Order × List ℕ)
 order_read s = option_map (λ o. (o, behind_line s)) (order_of (first_line s))
 
--- what becomes of a text's first line behind the orders kept: one order more and the text behind it, or a refusal
-abbrev pub Adds : {E : Type 0} → (E → Answer) → List Order → List ℕ → Result (Order × Bor (List ℕ)) E → Type 0
-Adds answer kept text (Ok p) =
+-- what becomes of a line behind the orders kept, whatever lines follow: one order more, or a refusal
+abbrev pub Adds : {E : Type 0} → (E → Answer) → List Order → List ℕ → Result Order E → Type 0
+Adds answer kept line (Ok o) =
+    (length kept < place_count) × ((lines : List (List ℕ)) → read_from kept (line ∷ lines) ≡ read_from (kept ++ (o ∷ [])) lines)
+Adds answer kept line (Err e) = (lines : List (List ℕ)) → read_from kept (line ∷ lines) ≡ answer e
+
+-- the order that a function has read, without the characters behind it
+abbrev pub order_alone : {E : Type 0} → Result (Order × Bor (List ℕ)) E → Result Order E
+order_alone r = result_map_both (λ p. p.0) (λ e. e) r
+
+-- what becomes of a text by its first line: one order more and the text behind it, or a refusal
+abbrev pub AddsFirst : {E : Type 0} → (E → Answer) → List Order → List ℕ → Result (Order × Bor (List ℕ)) E → Type 0
+AddsFirst answer kept text (Ok p) =
     (length kept < place_count)
     × (length p.1.now < length text)
     × (read_from kept (lines_of text) ≡ read_from (kept ++ (p.0 ∷ [])) (lines_of p.1.now))
-Adds answer kept text (Err e) = read_from kept (lines_of text) ≡ answer e
+AddsFirst answer kept text (Err e) = read_from kept (lines_of text) ≡ answer e
 
 -- the answer to a text that is refused, and to one whose lines have left these orders
 abbrev pub refused_at : RefusedLine → Answer

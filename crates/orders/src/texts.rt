@@ -3,7 +3,7 @@ ghost use Rattle.std.specs.Prelude.{◌≡◌, ◌+◌, ◌<◌, length};
 ghost use Rattle.orders.specs.Lines.{lines_of};
 ghost use Rattle.orders.specs.Texts.{Refused, read_from};
 ghost use Rattle.orders.specs.Refusals.{number};
-ghost use Rattle.orders.specs.Scans.{Adds, refused_at, answer_in};
+ghost use Rattle.orders.specs.Scans.{first_line, Adds, order_alone, AddsFirst, refused_at, answer_in};
 
 use super::kept::Kept;
 use super::lines::first_order;
@@ -29,7 +29,8 @@ impl From<RefusedLine> for Refusal {
 // The order of a text's first line behind the orders kept, and the text behind the line.
 fn order_behind<'a>(kept: &Kept, text: &'a [u8]) -> Result<(Order, &'a [u8]), Refusal>
     requires { 0 < length text.now }
-    ensures { Adds (λ refusal. Refused (number refusal) (length kept.now + 1)) kept.now text.now result }
+    ensures line { Adds (λ refusal. Refused (number refusal) (length kept.now + 1)) kept.now (first_line text.now) (order_alone result) }
+    ensures text { AddsFirst (λ refusal. Refused (number refusal) (length kept.now + 1)) kept.now text.now result }
 {
     unless(kept.len() < PLACE_COUNT, Refusal::Line65)?;
     let (order, rest) = first_order(text).ok_or(Refusal::LineForm)?;
@@ -40,7 +41,8 @@ fn order_behind<'a>(kept: &Kept, text: &'a [u8]) -> Result<(Order, &'a [u8]), Re
 // The same, and the line at which the text is refused.
 fn next_order<'a>(kept: &Kept, text: &'a [u8]) -> Result<(Order, &'a [u8]), RefusedLine>
     requires { 0 < length text.now }
-    ensures { Adds refused_at kept.now text.now result }
+    ensures line { Adds refused_at kept.now (first_line text.now) (order_alone result) }
+    ensures text { AddsFirst refused_at kept.now text.now result }
 {
     order_behind(kept, text).map_err(|refusal| RefusedLine {
         refusal,
